@@ -1,0 +1,12 @@
+pub mod Limits
+pub mod Flows
+pub mod Bounds
+pub mod Queues
+pub mod Runs
+pub mod Histories
+pub mod Explaining
+pub mod Networks
+pub mod Rings
+pub mod Pending
+pub mod Links
+pub mod Reading
