@@ -19,7 +19,8 @@ use Rattle.flows.specs.declared.flow.Rule.the-variants.{Operator, Name}
 use Rattle.flows.specs.declared.network.Network.{Network}
 use Rattle.flows.specs.Bounds.{bound}
 use Rattle.flows.specs.Flows.{flow, known, knows, inside, Within}
-use Rattle.flows.specs.Networks.{contents, Closed, Bounded}
+use Rattle.flows.specs.Limits.{most-flows}
+use Rattle.flows.specs.Networks.{Closed, Bounded}
 use Rattle.flows.specs.Reading.{Indexes}
 
 -- what is inside stays so with more variables
@@ -62,6 +63,9 @@ bounded-push n bounds b old new i h =
 module _ (n : Network) where
   pub flows-long : length (vec-items (n .flows)) ≡ n .counts .flows
   flows-long = sym (n .flows .ok .0) ∙ n .«flow_count»
+
+  pub few : length (vec-items (n .flows)) ≤ most-flows
+  few = omega (arith, flows-long, n .counts .«few_flows»)
 
   pub bounds-long : length (vec-items (n .bounds)) ≡ n .counts .bounds
   bounds-long = sym (n .bounds .ok .0) ∙ n .«bound_count»

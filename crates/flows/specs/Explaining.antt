@@ -11,7 +11,7 @@ use Rattle.kinds.specs.declared.kind.Kind.{Ghosts as Kind}
 use Rattle.flows.specs.declared.flow.Bound.{Bound}
 use Rattle.flows.specs.declared.flow.Flow.{Flow}
 use Rattle.flows.specs.Flows.{held, met, flow}
-use Rattle.flows.specs.Bounds.{broken, bound, Unbroken, Lowest}
+use Rattle.flows.specs.Bounds.{broken, bound, Unbroken, Lowest, Judged}
 use Rattle.flows.specs.Queues.{numbered}
 use Rattle.flows.specs.Runs.{applied, Run}
 
@@ -57,10 +57,20 @@ written (n ∷ numbers) (x ∷ list) = n ∷ written numbers list
 abbrev pub bottoms : {K : Type 0} → Kind K → ℕ → List K
 bottoms kind n = replicate n (kind .bottom)
 
--- the explaining run over all flows, in number order, from bottom: what it tells, how many flows rise, and the list of them
-pub record Explained {K : Type 0} (kind : Kind K) (flows : List Flow) (bounds : List Bound) (size : ℕ) (told : Option ℕ) (rises : ℕ) (list list′ : List ℕ) (after : List K) : Type 0 where
+-- a run that stops at a broken bound tells this; so many flows rise, and they are written to a list
+pub record Traced {K : Type 0} (kind : Kind K) (flows : List Flow) (bounds : List Bound) (start : List K) (first : List ℕ) (told : Option ℕ) (rises : ℕ) (list list′ : List ℕ) (after : List K) : Type 0 where
   pub risen : List ℕ
-  pub run : Told kind flows bounds (bottoms kind size) (numbered 0 (length flows)) told risen after
+  pub run : Told kind flows bounds start first told risen after
   pub counted : rises ≡ length risen
   pub listed : list′ ≡ written risen list
-  pub leads : Leads kind flows bounds (bottoms kind size) risen told
+
+-- the explaining run, over all flows in number order, with every variable at bottom first
+pub record Explained {K : Type 0} (kind : Kind K) (flows : List Flow) (bounds : List Bound) (size : ℕ) (told : Option ℕ) (rises : ℕ) (list list′ : List ℕ) (after : List K) : Type 0 where
+  pub traced : Traced kind flows bounds (bottoms kind size) (numbered 0 (length flows)) told rises list list′ after
+  -- nothing else can be told
+  pub only : (told′ : Option ℕ) (risen′ : List ℕ) (after′ : List K) → Told kind flows bounds (bottoms kind size) (numbered 0 (length flows)) told′ risen′ after′
+      → (told′ ≡ told) × (risen′ ≡ traced .risen) × (after′ ≡ after)
+  -- the list, applied in order from bottom, breaks the bound
+  pub leads : Leads kind flows bounds (bottoms kind size) (traced .risen) told
+  -- a bound is told just where flows and bounds cannot be met together
+  pub judged : Judged kind flows bounds told

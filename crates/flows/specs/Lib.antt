@@ -4,6 +4,7 @@ pub mod Bounds
 pub mod Queues
 pub mod Runs
 pub mod Histories
+pub mod Settling
 pub mod Explaining
 pub mod Networks
 pub mod Rings

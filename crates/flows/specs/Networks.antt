@@ -58,6 +58,12 @@ Closed n flows = (i : ℕ) → i < length flows → inside n (flow flows i) ≡ 
 abbrev pub Bounded : ℕ → List Bound → Type 0
 Bounded n bounds = (i : ℕ) → i < length bounds → bound bounds i .variable < n
 
+-- the counts of contents
+pub record Counted (c : Contents) (counts : Counts) : Type 0 where
+  pub variables : counts .variables ≡ c .variables
+  pub flows : counts .flows ≡ length (c .flows)
+  pub bounds : counts .bounds ≡ length (c .bounds)
+
 -- the contents as they were at earlier counts
 abbrev pub cut : Contents → Counts → Contents
 cut c to = record { variables = to .variables; flows = take (to .flows) (c .flows); bounds = take (to .bounds) (c .bounds) }

@@ -30,7 +30,11 @@ fn list_of(source: Option<Variable>) -> usize
     ensures { λ r. ⌜ r ≡ list-of source ⌝ }
 {
     match source {
-        Some(v) => if (v as usize) < NONE { v as usize } else { NONE },
+        Some(v) => if (v as usize) < NONE {
+            v as usize
+        } else {
+            NONE
+        },
         None => NONE,
     }
 }

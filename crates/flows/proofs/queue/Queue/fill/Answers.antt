@@ -7,8 +7,8 @@ use Rattle.flows.proofs.queue.Queue.fill.Needs as need
 
 pub loop-number-again : need.loop-number-again
 loop-number-again c = (
-    numbered-turn (c .args .from) (c .loop-number .number) _ _ (c .loop-number .kept .number) (c .loop-number .inv .0) (c .push .ensures),
-    omega arith,
+  numbered-turn (c .args .from) (c .loop-number .number) _ _ (c .loop-number .kept .number) (c .loop-number .inv .0) (c .push .ensures),
+  omega arith,
 )
 
 pub returns : need.returns
