@@ -1,7 +1,5 @@
 ghost use mathlib.Core.Path.{_≡_};
-ghost use Prim.Native.Nat.{_<_};
-ghost use lib.ListN.{length};
-ghost use Rattle.flows.specs.Bounds.{broken, bound, Tested, Judged};
+ghost use Rattle.flows.specs.Bounds.{broken, Tested, Judged};
 ghost use Rattle.flows.specs.Flows.{held, Least};
 ghost use Rattle.flows.specs.Networks.{contents};
 use super::flow::Bound;
@@ -20,14 +18,6 @@ fn breaks<K: Kind>(values: &[K], bound: Bound) -> bool
 }
 
 impl Network {
-    // The bound with a number.
-    fn bound(&self, number: BoundNumber) -> Bound
-        requires { ⌜ number < length (contents (now self) .bounds) ⌝ }
-        ensures { λ r. ⌜ r ≡ bound (contents (now (self .entry)) .bounds) number ⌝ }
-    {
-        self.bounds[number as usize]
-    }
-
     fn lowest_broken<K: Kind>(&self, values: &[K]) -> Option<BoundNumber>
         ensures { λ r. ⌜ Tested K·Kind (contents (now (self .entry)) .bounds) (held K·Kind (now (values .entry))) r ⌝ }
     {

@@ -1,12 +1,9 @@
-ghost use mathlib.Core.Bool.{cond, true};
+ghost use mathlib.Core.Bool.{cond};
 ghost use mathlib.Core.Path.{_≡_};
-ghost use Prim.Native.Nat.{_<_};
-ghost use lib.Dec.{ltb};
 ghost use lib.ListN.{length};
-ghost use Rattle.std.specs.Orderings.{Decides};
 ghost use Rattle.std.specs.Vec.{made};
-ghost use Rattle.flows.specs.Flows.{known, knows, inside, flow};
-ghost use Rattle.flows.specs.Networks.{contents, nothing, number-if, room-for-variable, with-variable, room-for-flow, with-flow, room-for-bound, with-bound, Closed, Bounded, Counted, Earlier, cut};
+ghost use Rattle.flows.specs.Flows.{known, knows, inside};
+ghost use Rattle.flows.specs.Networks.{contents, nothing, number-if, room-for-variable, with-variable, room-for-flow, with-flow, room-for-bound, with-bound};
 use super::flow::Bound;
 use super::flow::BoundNumber;
 use super::flow::Flow;
@@ -41,32 +38,10 @@ fn sources_known(rule: Rule, variables: Variable) -> bool
 }
 
 // Whether all variables of a flow are below the count.
-fn flow_inside(flow: Flow, variables: Variable) -> bool
+pub(super) fn flow_inside(flow: Flow, variables: Variable) -> bool
     ensures { λ r. ⌜ r ≡ inside variables flow ⌝ }
 {
     (flow.target < variables) & sources_known(flow.rule, variables)
-}
-
-fn flows_inside(flows: &[Flow], variables: Variable) -> bool
-    ensures { λ r. ⌜ Decides r (Closed variables (now (flows .entry))) ⌝ }
-{
-    for flow in flows {
-        if !flow_inside(*flow, variables) {
-            return false;
-        }
-    }
-    true
-}
-
-fn bounds_inside(bounds: &[Bound], variables: Variable) -> bool
-    ensures { λ r. ⌜ Decides r (Bounded variables (now (bounds .entry))) ⌝ }
-{
-    for bound in bounds {
-        if bound.variable >= variables {
-            return false;
-        }
-    }
-    true
 }
 
 impl Network {
@@ -150,44 +125,5 @@ impl Network {
             bounds: bounds + 1,
         };
         Some(bounds)
-    }
-
-    // How much it holds.
-    pub fn counts(&self) -> Counts
-        ensures { λ r. ⌜ Counted (contents (now (self .entry))) r ⌝ }
-    {
-        self.counts
-    }
-
-    // Takes back all that came after these counts. Where they are no earlier counts, or something that would stay has a
-    // variable that would go, nothing changes and the answer is `false`.
-    pub fn cut_back(&mut self, to: Counts) -> bool
-        ensures earlier { λ r. ⌜ Decides r (Earlier (contents (now (self .entry))) to) ⌝ }
-        ensures after { λ r. ⌜ contents (now (self .exit)) ≡ cond r (cut (contents (now (self .entry))) to) (contents (now (self .entry))) ⌝ }
-    {
-        if !self.can_cut(to) {
-            return false;
-        }
-        self.readers.cut_to(to.flows as usize);
-        self.flows.truncate(to.flows as usize);
-        self.bounds.truncate(to.bounds as usize);
-        self.counts = to;
-        true
-    }
-
-    fn can_cut(&self, to: Counts) -> bool
-        ensures { λ r. ⌜ Decides r (Earlier (contents (now (self .entry))) to) ⌝ }
-    {
-        let Counts {
-            variables,
-            flows,
-            bounds,
-        } = self.counts;
-        if to.variables > variables || to.flows > flows || to.bounds > bounds {
-            return false;
-        }
-        let kept_flows = &self.flows.as_slice()[0..to.flows as usize];
-        let kept_bounds = &self.bounds.as_slice()[0..to.bounds as usize];
-        flows_inside(kept_flows, to.variables) && bounds_inside(kept_bounds, to.variables)
     }
 }

@@ -3,6 +3,7 @@
 // least, a bound is broken just where nothing meets flows and bounds together, and the evaluations are bounded.
 mod bounds;
 mod building;
+mod cutting;
 pub mod explain;
 pub mod flow;
 mod linking;
@@ -10,6 +11,7 @@ pub mod network;
 mod queue;
 mod queueing;
 mod readers;
+mod reading;
 mod run;
 mod settle;
 pub mod worklist;

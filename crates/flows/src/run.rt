@@ -56,14 +56,6 @@ pub(super) fn raise<K: Kind>(values: &mut [K], flow: Flow) -> bool
 }
 
 impl Network {
-    // The flow with a number.
-    pub(super) fn flow(&self, number: usize) -> Flow
-        requires { ⌜ number < length (contents (now self) .flows) ⌝ }
-        ensures { λ r. ⌜ r ≡ flow (contents (now (self .entry)) .flows) number ⌝ }
-    {
-        self.flows[number]
-    }
-
     // Appends every flow that reads a variable and does not wait, in ascending number.
     pub(super) fn wake(&self, queue: &mut Queue, variable: Variable)
         requires { ⌜ variable < contents (now self) .variables ⌝ }

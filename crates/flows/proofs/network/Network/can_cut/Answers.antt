@@ -5,7 +5,6 @@ use lib.ListN.{take}
 use Rattle.std.specs.Of.Vec.{vec-items}
 use Rattle.std.proofs.shelf.Tests.{both-ways}
 use Rattle.flows.specs.Networks.{Closed, Bounded}
-use Rattle.flows.proofs.Built.{flows-long, bounds-long}
 use Rattle.flows.proofs.network.Network.can_cut.Needs as need
 use Rattle.flows.proofs.network.Network.can_cut.Needs.{After-flows-inside, After-bounds-inside}
 
@@ -22,12 +21,11 @@ kept-bounds c =
 pub returns-then-flows-inside : need.returns-then-flows-inside
 returns-then-flows-inside c =
     let here = need.at·returns-then-flows-inside c .After-flows-inside in
-    let n = c .args .self .now in
     let variables = c .args .to .variables in (
       λ ok. record {
-        variables = c .if-to-variables .left;
-        flows = omega (arith, c .if-to-flows .left, flows-long n);
-        bounds = omega (arith, c .if-to-bounds .left, bounds-long n);
+        variables = omega (arith, c .if-to-now .left, c .counts-now .ensures .variables);
+        flows = omega (arith, c .if-to-now-2 .left, c .counts-now .ensures .flows);
+        bounds = omega (arith, c .if-to-now-3 .left, c .counts-now .ensures .bounds);
         closed = subst (Closed variables) (kept-flows here) (c .flows-inside .ensures .0 (c .if-flows-inside .taken));
         bounded = subst (Bounded variables) (kept-bounds here) (c .bounds-inside .ensures .0 ok);
       },
