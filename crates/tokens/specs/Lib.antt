@@ -1,0 +1,13 @@
+pub mod Bytes
+pub mod Limits
+pub mod Classes
+pub mod Marks
+pub mod Tokens
+pub mod Meanings
+pub mod Finding
+pub mod Lexer
+pub mod Found
+pub mod Reading
+pub mod Answers
+pub mod Local
+pub mod Examples
