@@ -8,9 +8,9 @@ ghost use Rattle.tokens.specs.Found.{found-as};
 ghost use Rattle.tokens.specs.Bytes.{letter, digit, tail, operator, marking};
 use super::bytes::Class;
 use super::bytes::run_len;
-use super::marks::LONGEST_NAME;
 use super::marks::is_grouped;
 use super::marks::is_name;
+use super::marks::is_short;
 use super::token::Mark;
 use super::token::Symbol;
 use super::token::TokenKind;
@@ -83,7 +83,7 @@ fn word<'a>(text: &'a [u8]) -> Option<Found<'a>>
     ensures { λ r. ⌜ found-as r ≡ word-run (leading tail (now (text .entry))) (now (text .entry)) ⌝ }
 {
     let len = run_len(text, Class::Tail);
-    if len > LONGEST_NAME {
+    if !is_short(len) {
         return None;
     }
     Some(Found {

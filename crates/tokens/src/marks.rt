@@ -1,11 +1,13 @@
 ghost use mathlib.Core.Path.{_≡_};
 ghost use mathlib.Core.List.{_∷_, map};
 ghost use Prim.Native.Nat.{_<_};
+ghost use lib.Dec.{leb};
 ghost use lib.ListN.{length};
 ghost use Rattle.std.specs.Of.Vec.{vec-items};
 ghost use Rattle.std.specs.Slices.{found};
 ghost use Rattle.std.specs.Vec.{made};
 ghost use Rattle.tokens.specs.Bytes.{byte};
+ghost use Rattle.tokens.specs.Limits.{longest-name};
 ghost use Rattle.tokens.specs.Marks.{all, name, names-of, groups-of, grouped, parts, further};
 use super::bytes::Class;
 use super::bytes::run_len;
@@ -13,7 +15,7 @@ use std::alloc::AllocError;
 use std::alloc::Global;
 
 // The longest identifier, and the longest name in a mark.
-pub(super) const LONGEST_NAME: usize = 16;
+const LONGEST_NAME: usize = 16;
 
 // The front of some bytes, and what follows the byte that ends it.
 #[derive(Clone, Copy)]
@@ -42,11 +44,21 @@ pub fn first_part<'a>(bytes: &'a [u8], sep: u8) -> Cut<'a>
     }
 }
 
+// Whether a name may have so many bytes.
+pub(super) fn is_short(len: usize) -> bool
+    ensures { λ r. ⌜ r ≡ leb len longest-name ⌝ }
+{
+    len <= LONGEST_NAME
+}
+
 pub(super) fn is_name(bytes: &[u8]) -> bool
     ensures { λ r. ⌜ r ≡ name (now (bytes .entry)) ⌝ }
 {
     let len = bytes.len();
-    1 <= len && len <= LONGEST_NAME && run_len(bytes, Class::Letter) == len
+    if len == 0 || !is_short(len) {
+        return false;
+    }
+    run_len(bytes, Class::Letter) == len
 }
 
 // Whether a group is empty or names joined by `,`.

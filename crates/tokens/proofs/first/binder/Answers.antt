@@ -1,31 +1,17 @@
-use mathlib.Core.Path.{ap, _∙_}
-use mathlib.Core.List.{List}
-use Prim.Native.Nat.{ℕ, _-_}
-use lib.ListN.{length, take, drop}
-use Rattle.std.specs.shelf.Lists.{leading}
-use Rattle.std.proofs.shelf.Lists.{take-rest}
 use Rattle.tokens.specs.Bytes.{marking}
 use Rattle.tokens.specs.Marks.{grouped}
 use Rattle.tokens.specs.Tokens.{binder}
-use Rattle.tokens.specs.Finding.{binder-mark}
 use Rattle.tokens.proofs.Opening.{unclosed, ill-formed, well-formed}
 use Rattle.tokens.proofs.first.binder.Needs as need
 use Rattle.tokens.proofs.first.binder.Needs.{else-ends-mark·by·then-ends-mark·else-is-grouped, else-ends-mark·by·else-ends-mark}
 
--- what stands behind the first three bytes
-abbrev inner : List ℕ → List ℕ
-inner text = take (length text - 3) (drop 3 text)
-
 pub returns-else-ends-mark : need.returns-else-ends-mark
 returns-else-ends-mark c =
-    let text = c .args .text .now in
     elim (c .else-ends-mark .came) [
-      | else-ends-mark·by·then-ends-mark·else-is-grouped w ↦ ill-formed (inner text) _ _ grouped binder (c .run-len-len .ensures .run) (w .if-is-grouped .ensures tt) ∙ ap (λ s. binder-mark (leading marking s) s) (take-rest text 3)
-      | else-ends-mark·by·else-ends-mark w ↦ unclosed (inner text) _ _ grouped binder (c .run-len-len .ensures .run) (w .if-ends-mark .ensures tt) ∙ ap (λ s. binder-mark (leading marking s) s) (take-rest text 3)
+      | else-ends-mark·by·then-ends-mark·else-is-grouped w ↦ ill-formed marking grouped binder (c .args .text .now) _ (c .run-len-len .ensures .run) (w .if-is-grouped .ensures tt)
+      | else-ends-mark·by·else-ends-mark w ↦ unclosed marking grouped binder (c .args .text .now) _ (c .run-len-len .ensures .run) (w .if-ends-mark .ensures tt)
     ]
 
 pub returns-then-is-grouped : need.returns-then-is-grouped
 returns-then-is-grouped c =
-    let text = c .args .text .now in
-    well-formed (inner text) _ _ grouped binder (c .run-len-len .ensures .run) (c .if-ends-mark .ensures tt) (c .if-is-grouped .ensures tt)
-    ∙ ap (λ s. binder-mark (leading marking s) s) (take-rest text 3)
+    well-formed marking grouped binder (c .args .text .now) _ (c .run-len-len .ensures .run) (c .if-ends-mark .ensures tt) (c .if-is-grouped .ensures tt)
