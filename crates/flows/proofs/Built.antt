@@ -1,13 +1,13 @@
 -- What a network keeps as it grows and shrinks. Assumes nothing.
 use mathlib.Core.Path.{_≡_, refl, sym, ap, subst, _∙_}
-use mathlib.Core.Bool.{Bool, true, false, _&&_}
+use mathlib.Core.Bool.{true}
 use mathlib.Core.List.{List, [], _∷_, _++_}
 use mathlib.Core.Logic.{⊎-elim}
 use Prim.Native.Nat.{ℕ, _+_, _*_, _≤_, _<_}
 use native.Mathlib.Omega.{arith}
 use lib.Dec.{ltb}
-use lib.ListN.{length, take, getD}
-use Rattle.std.specs.Of.Vec.{vec-items, vec-len}
+use lib.ListN.{length}
+use Rattle.std.specs.Of.Vec.{vec-items}
 use Rattle.std.specs.declared.option.Option.{Option}
 use Rattle.std.specs.declared.option.Option.the-variants.{Some, None}
 use Rattle.std.proofs.shelf.Lists.{getD-append-left, getD-push, length-push}
@@ -17,7 +17,6 @@ use Rattle.flows.specs.declared.flow.Flow.{Flow}
 use Rattle.flows.specs.declared.flow.Rule.{Rule}
 use Rattle.flows.specs.declared.flow.Rule.the-variants.{Operator, Name}
 use Rattle.flows.specs.declared.network.Network.{Network}
-use Rattle.flows.specs.Bounds.{bound}
 use Rattle.flows.specs.Flows.{flow, known, knows, inside, Within}
 use Rattle.flows.specs.Limits.{most-flows}
 use Rattle.flows.specs.Networks.{Closed, Bounded}

@@ -31,11 +31,6 @@ written-push [] n (x ∷ list) = refl
 written-push (r ∷ rs) n [] = refl
 written-push (r ∷ rs) n (x ∷ list) = ap (λ xs. r ∷ xs) (written-push rs n list)
 
-pub written-length : (rs list : List ℕ) → length (written rs list) ≡ length list
-written-length [] list = refl
-written-length (r ∷ rs) [] = refl
-written-length (r ∷ rs) (x ∷ list) = let e = written-length rs list in omega arith
-
 module _ {K : Type 0} (kind : Kind K) (flows : List Flow) (bounds : List Bound) (start : List K) (first : List ℕ) where
   -- the rises of a run that stops at a bound lead to it
   breaks-leads : (b : ℕ) {rs : List ℕ} {vs : List K} → Breaks kind flows bounds start first b rs vs → Leads kind flows bounds start rs (Some b)

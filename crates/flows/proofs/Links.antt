@@ -1,16 +1,16 @@
 -- Slots linked both ways, a list for each variable. Assumes nothing.
 use mathlib.Core.Path.{_≡_, refl, sym, ap, subst, _∙_}
-use mathlib.Core.Bool.{Bool, true, false, cond}
+use mathlib.Core.Bool.{true, cond}
 use mathlib.Core.List.{List, [], _∷_, _++_, append-nil}
 use mathlib.Core.Logic.{_⊎_, inl, inr, ⊎-elim}
-use Prim.Native.Nat.{ℕ, zero, suc, _+_, _-_, _*_, _/_, _≤_, _<_}
+use Prim.Native.Nat.{ℕ, zero, suc, _+_, _-_, _/_, _≤_, _<_}
 use native.Mathlib.Omega.{arith}
 use native.Mathlib.Numerals.{add-one}
-use lib.Dec.{eqb, ltb}
-use lib.ListN.{length, getD, set, length-set}
+use lib.Dec.{eqb}
+use lib.ListN.{length, getD, set}
 use lib.Seq.{getD-set-same, getD-set-other}
 use Rattle.std.proofs.shelf.Tests.{cases-eq, cases-bool, cond-true, cond-false, eqb-true, eqb-false, eq-eqb, ne-eqb}
-use Rattle.flows.specs.Links.{latest, listing, passed}
+use Rattle.flows.specs.Links.{latest, listing}
 
 -- the last of the first n slots with a variable is the variable's own node, or a slot with the variable
 pub lands : (room : ℕ) (vs : List ℕ) (v n : ℕ) → (latest room vs v n ≡ room + v) ⊎ ((latest room vs v n < n) × (getD vs (latest room vs v n) 0 ≡ v))

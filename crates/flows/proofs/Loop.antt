@@ -34,7 +34,7 @@ module _ {K : Type 0} (kind : Kind K) (laws : Lawful kind) (flows : List Flow) (
   pub turn-first : (vs : List K) (old : List ℕ) (n : ℕ) (rs : List ℕ) (i : ℕ) (q : List ℕ) → Run kind flows start first vs old n rs → old ≡ i ∷ q → (i < length flows) × (flow flows i .target < length vs)
   turn-first vs old n rs i q run front = fits-first kind flows vs i q (subst (Fits kind flows vs) front (fits-run kind flows start first fits run))
 
-  -- evaluations and rises stay few
+  -- evaluations and rises stay few: no more than most-flows × (1 + 2 × kind-limit)
   pub turn-few : kind .height ≤ kind-limit → length flows ≤ most-flows → length first ≤ most-flows → (vs : List K) (old : List ℕ) (n : ℕ) (rs : List ℕ) → Run kind flows start first vs old n rs → n ≤ 821248
   turn-few low few short vs old n rs run =
       let twice : 2 * kind .height ≤ 400 = omega arith in

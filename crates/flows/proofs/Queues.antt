@@ -9,7 +9,7 @@ use native.Mathlib.Omega.{arith}
 use lib.Dec.{eqb}
 use lib.ListN.{length, length-append, getD}
 use Rattle.std.proofs.shelf.Lists.{getD-append-left, getD-push}
-use Rattle.std.proofs.shelf.Tests.{eqb-true, eqb-false, eq-eqb, ne-eqb, cases-eq, cases-bool, cond-false, or-cases, or-parts, or-from, or-left, or-right, false≢true, both-ways}
+use Rattle.std.proofs.shelf.Tests.{eqb-true, eq-eqb, ne-eqb, cases-eq, cases-bool, cond-false, or-cases, or-parts, or-from, or-left, or-right, false≢true, both-ways}
 use Rattle.flows.specs.declared.flow.Flow.{Flow}
 use Rattle.flows.specs.Flows.{reads, flow}
 use Rattle.flows.specs.Queues.{waits, joined, numbered}

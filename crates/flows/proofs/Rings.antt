@@ -1,15 +1,15 @@
 -- A ring of flow numbers with a flag for each flow. Assumes nothing.
 use mathlib.Core.Path.{_≡_, refl, sym, ap, subst, _∙_}
-use mathlib.Core.Bool.{Bool, true, false, cond, not, _&&_, _||_}
+use mathlib.Core.Bool.{Bool, true, false, cond, not, _||_}
 use mathlib.Core.List.{List, [], _∷_, _++_}
 use mathlib.Core.Logic.{⊎-elim}
 use Prim.Native.Nat.{ℕ, zero, suc, _+_, _-_, _≤_, _<_}
 use native.Mathlib.Omega.{arith}
-use lib.Dec.{eqb, ltb}
+use lib.Dec.{eqb}
 use lib.ListN.{length, getD, set, replicate, length-set}
 use native.Mathlib.Numerals.{add-one}
 use lib.Seq.{getD-set-same, getD-set-other}
-use Rattle.std.proofs.shelf.Tests.{and-parts, and-from, not-true, not-from-false, cases-eq, cases-lt, or-parts, eqb-false, or-from, or-right, both-ways, ne-eqb, eq-eqb, or-left}
+use Rattle.std.proofs.shelf.Tests.{and-parts, and-from, not-true, not-from-false, cases-eq, cases-lt, or-parts, eqb-false, or-from, or-right, both-ways, ne-eqb}
 use Rattle.std.specs.shelf.Lists.{countBy}
 use Rattle.std.proofs.shelf.Lists.{getD-past}
 use Rattle.std.proofs.shelf.Sums.{sumBy-set, countBy-le-length}

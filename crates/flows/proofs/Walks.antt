@@ -1,15 +1,12 @@
 -- What the functions of a table of readers leave of it. Assumes nothing.
-use mathlib.Core.Path.{_≡_, refl, sym, ap, subst, _∙_}
-use mathlib.Core.Bool.{cond}
-use mathlib.Core.List.{List, [], _∷_, _++_}
-use mathlib.Core.Logic.{⊎-elim}
-use Prim.Native.Nat.{ℕ, suc, _+_, _-_, _≤_, _<_, _/_}
+use mathlib.Core.Path.{_≡_, sym, ap, subst, _∙_}
+use mathlib.Core.List.{[], _∷_, _++_}
+use Prim.Native.Nat.{ℕ, _+_, _-_, _≤_, _<_, _/_}
 use native.Mathlib.Omega.{arith}
-use lib.Dec.{ltb, eqb}
-use lib.ListN.{length, getD, set}
+use lib.ListN.{getD, set}
 use Rattle.std.specs.Of.Vec.{vec-items, vec-len}
 use Rattle.std.proofs.shelf.Lists.{getD-read-under}
-use Rattle.std.proofs.shelf.Tests.{cond-true, cond-false, lt-ltb, le-ltb}
+use Rattle.std.proofs.shelf.Tests.{cond-true, lt-ltb}
 use Rattle.flows.specs.declared.readers.Readers.{Readers}
 use Rattle.flows.specs.Limits.{most-slots, list-count}
 use Rattle.flows.specs.Links.{latest, listing, passed}
@@ -51,11 +48,6 @@ module _ (r : Readers) where
           below = high;
           lists = ap (listing (vec-items (r .variable)) v) come ∙ lists;
         }
-
-  pub walk-starts : (v : ℕ) → At r v (most-slots + v) × (so-far r v (most-slots + v) ≡ [])
-  walk-starts v =
-      let none : passed most-slots (most-slots + v) ≡ 0 = cond-false _ _ _ (le-ltb (most-slots + v) most-slots (omega arith)) in
-      (record { on = sym (ap (latest most-slots (vec-items (r .variable)) v) none); inside = omega arith }, ap (listing (vec-items (r .variable)) v) none)
 
   module _ (some : 0 < r .slots) (v p : ℕ) (is : v ≡ getD (vec-items (r .variable)) (r .slots - 1) v) (was : p ≡ getD (vec-items (r .previous)) (r .slots - 1) p) where
     less : r .slots ≡ r .slots - 1 + 1

@@ -1,6 +1,6 @@
 -- Runs one after the other, each over more flows. Assumes nothing.
 use mathlib.Core.List.{List, [], _++_}
-use Prim.Native.Nat.{ℕ, _+_, _*_, _≤_}
+use Prim.Native.Nat.{ℕ, _+_, _*_}
 use lib.ListN.{length, replicate}
 use Rattle.kinds.specs.declared.kind.Kind.{Ghosts as Kind}
 use Rattle.flows.specs.declared.flow.Flow.{Flow}

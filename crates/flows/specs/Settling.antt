@@ -18,6 +18,8 @@ pub record Settles {K : Type 0} (kind : Kind K) (flows : List Flow) (from : ℕ)
   pub only : (m : ℕ) (other : List K) → Ends kind flows start (numbered from (length flows - from)) m other → (m ≡ n) × (other ≡ after)
   -- values that were the least to meet the flows before are the least to meet all
   pub least : Least kind (take from flows) (held kind start) → Least kind flows (held kind after)
-  -- a history of runs goes on, and all its evaluations together stay within what its flows allow
+  -- a history of runs from bottom goes on: its values are the least that meet its flows, and all its evaluations together stay
+  -- within what its flows allow
   pub history : (m : ℕ) → History kind (length start) (take from flows) start m → History kind (length start) flows after (m + n)
+  pub settled : (m : ℕ) → History kind (length start) (take from flows) start m → Least kind flows (held kind after)
   pub cost : (m : ℕ) → History kind (length start) (take from flows) start m → m + n ≤ allowed kind flows

@@ -56,7 +56,7 @@ fn sources(rule: Rule) -> (usize, usize)
 
 // The numbers from `first` on.
 fn counted_from(heap: Global, first: usize, count: usize) -> Result<Vec<usize>, AllocError>
-    requires { ⌜ first + count ≤ 1000000 ⌝ }
+    requires { ⌜ first + count ≤ most-slots + list-count ⌝ }
     ensures { λ r. ⌜ made r (λ v. vec-items v ≡ numbered first count) ⌝ }
 {
     let mut numbers = Vec::with_capacity(heap, count)?;

@@ -1,8 +1,8 @@
 -- What order and rank say together. Assumes nothing.
 use mathlib.Core.Path.{_≡_, sym, ap, subst}
-use mathlib.Core.Bool.{Bool, true, false}
+use mathlib.Core.Bool.{true, false}
 use mathlib.Core.Logic.{_⊎_, inl, inr, ⊎-elim}
-use Prim.Native.Nat.{ℕ, _<_, _≤_}
+use Prim.Native.Nat.{_<_}
 use native.Mathlib.Omega.{arith}
 use Rattle.std.proofs.shelf.Tests.{cases-bool, both-ways, and-parts}
 use Rattle.kinds.specs.Laws.{Ranked}
@@ -12,12 +12,6 @@ use Rattle.kinds.specs.declared.pair.Pair.{Pair}
 use Rattle.kinds.specs.Pairs.{side-by-side}
 
 module _ {V : Type 0} (kind : Ghosts V) (laws : Lawful kind) where
-  -- a value joined with one at or below it stays
-  pub join-stays : (x y : V) → kind .below y x ≡ true → kind .join x y ≡ x
-  join-stays x y under =
-      let order = laws .order in
-      order .antisymmetric (kind .join x y) x (order .join-least x y x (order .reflexive x) under) (order .join-left x y)
-
   -- a value joined with one that is not at or below it gets a greater rank
   pub join-rises : (x y : V) → kind .below y x ≡ false → kind .rank x < kind .rank (kind .join x y)
   join-rises x y not-under =

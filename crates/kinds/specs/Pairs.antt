@@ -1,6 +1,6 @@
 -- Pair: two kinds side by side. Assumes nothing.
 use mathlib.Core.Bool.{_&&_, cond}
-use Prim.Native.Nat.{ℕ, _+_, _-_}
+use Prim.Native.Nat.{_+_, _-_}
 use lib.Dec.{ltb}
 use Rattle.kinds.specs.declared.kind.Kind.{Ghosts}
 use Rattle.kinds.specs.declared.pair.Pair.{Pair}

@@ -2,16 +2,14 @@
 use mathlib.Core.Path.{_≡_, refl, sym, ap, subst, _∙_}
 use mathlib.Core.Bool.{Bool, true, false, cond, _&&_}
 use mathlib.Core.List.{List, [], _∷_, _++_, append-assoc}
-use Prim.Native.Nat.{ℕ, suc, _+_, _≤_}
+use Prim.Native.Nat.{ℕ, _+_, _≤_}
 use native.Mathlib.Omega.{arith}
 use lib.Chars.{codes}
-use lib.Dec.{eqb, leb}
+use lib.Dec.{eqb}
 use lib.ListN.{length, take, drop, length-append}
 use Rattle.std.specs.shelf.Lists.{All, leading}
 use Rattle.std.specs.shelf.Text.{sameBytes}
-use Rattle.std.specs.declared.option.Option.{Option}
-use Rattle.std.specs.declared.option.Option.the-variants.{Some, None}
-use Rattle.std.proofs.shelf.Elements.{all-weaker}
+use Rattle.std.specs.declared.option.Option.the-variants.{None}
 use Rattle.std.proofs.shelf.Equals.{sameBytes-decides}
 use Rattle.std.proofs.shelf.Lists.{take-at, drop-at}
 use Rattle.std.proofs.shelf.Tests.{cond-true, cond-false, cond-both, le-leb, and-from, or-left}
@@ -19,7 +17,7 @@ use Rattle.std.proofs.shelf.Ways.{tells}
 use Rattle.tokens.specs.Bytes.{blank, letter, digit, tail, operator, marking}
 use Rattle.tokens.specs.Marks.{name, grouped, Grouped}
 use Rattle.tokens.specs.Tokens.{Tok, word, symbol, literal, identifier, binder, bound, Spells, Ends, Before, Named, spelling, sign}
-use Rattle.tokens.specs.Finding.{Sized, sized, reserved, first-word, word-of, operator-of, word-run, digit-run, operator-run, size-symbol, closes, binder-mark, bound-mark, token-at}
+use Rattle.tokens.specs.Finding.{sized, reserved, first-word, word-of, operator-of, word-run, digit-run, operator-run, size-symbol, closes, binder-mark, bound-mark, token-at}
 use Rattle.tokens.specs.declared.token.Word.{Word}
 use Rattle.tokens.specs.declared.token.Word.the-variants.{Val, Fun, Let, In, End, If, Then, Else, Ref, Int, Div, Mod}
 use Rattle.tokens.specs.declared.token.Symbol.{Symbol}

@@ -1,29 +1,20 @@
 -- How a part of a text reads does not depend on the rest. Assumes nothing.
 use mathlib.Core.Path.{_≡_, refl, sym, ap, subst, _∙_}
-use mathlib.Core.Bool.{Bool, true, false, cond}
-use mathlib.Core.List.{List, [], _∷_, _++_, map, append-assoc, append-nil}
-use Prim.Native.Nat.{ℕ, suc, _+_, _≤_}
-use native.Mathlib.Nat.{add-zero}
+use mathlib.Core.Bool.{true, false}
+use mathlib.Core.List.{List, [], _∷_, _++_, map, append-assoc}
+use Prim.Native.Nat.{ℕ, _+_}
 use native.Mathlib.Omega.{arith}
 use lib.Chars.{codes}
-use lib.Dec.{eqb}
 use lib.ListN.{length, length-append}
-use Rattle.std.proofs.shelf.Lists.{append-cancel-right, nil-from-length}
+use Rattle.std.proofs.shelf.Lists.{append-cancel-right}
 use Rattle.std.proofs.shelf.Ways.{tells}
-use Rattle.tokens.specs.Bytes.{blank, tail, digit, operator}
-use Rattle.tokens.specs.Tokens.{Tok, word, symbol, literal, identifier, binder, bound, Placed, Spells, Ends, Before, continues, joins}
+use Rattle.tokens.specs.Bytes.{blank, tail, digit}
+use Rattle.tokens.specs.Tokens.{Tok, word, symbol, literal, identifier, binder, bound, Placed, Spells, Ends, joins}
 use Rattle.tokens.specs.Reading.{Blanks, Front, Reads}
-use Rattle.tokens.specs.Local.{Holds, Only, moved, Apart, Stays, Joins, Parted, Splits, Moves, Unmoved, MovesBack, Marks, Inserts, Replaces}
+use Rattle.tokens.specs.Local.{moved, Apart, Stays, Joins, Splits, Moves, MovesBack, Marks, Inserts, Replaces}
 use Rattle.tokens.specs.declared.token.Symbol.{Symbol}
 use Rattle.tokens.specs.declared.token.Symbol.the-variants.{Bang, Plus, Minus, Star, Less, Colon, Equals, Assign, Open, Close, Comma, Semicolon}
 use Rattle.tokens.proofs.Sound.{never}
-use Rattle.tokens.proofs.Scanning.{lexed-lawful, lexed-only}
-
-pub holds : Holds
-holds = lexed-lawful
-
-pub only : Only
-only = lexed-only
 
 -- what is left is the end of the bytes
 pub reads-end : (p : ℕ) (bs : List ℕ) (ts : List Placed) (left : List ℕ) → Reads p bs ts left → (front : List ℕ) × (bs ≡ front ++ left)

@@ -1,14 +1,12 @@
 -- The computed tokens keep the law, and nothing else does. Assumes nothing.
 use mathlib.Core.Path.{_≡_, refl, sym, ap, subst, _∙_}
-use mathlib.Core.Bool.{Bool, true, false, cond}
-use mathlib.Core.Logic.{_⊎_, inl, inr, ⊎-elim}
-use mathlib.Core.List.{List, [], _∷_, _++_, append-assoc}
-use Prim.Native.Nat.{ℕ, zero, suc, _+_, _-_, _≤_, _<_}
+use mathlib.Core.Bool.{true, false}
+use mathlib.Core.Logic.{_⊎_, ⊎-elim}
+use mathlib.Core.List.{List, [], _∷_, _++_}
+use Prim.Native.Nat.{ℕ, zero, suc, _+_, _-_, _≤_}
 use native.Mathlib.Nat.{add-zero}
 use native.Mathlib.Omega.{arith}
-use lib.Dec.{leb}
 use lib.ListN.{length, length-append}
-use Rattle.std.specs.shelf.Lists.{All}
 use Rattle.std.specs.declared.option.Option.{Option}
 use Rattle.std.specs.declared.option.Option.the-variants.{Some, None}
 use Rattle.std.proofs.shelf.Tests.{cond-true, cond-false, cases-bool, cases-lt, le-leb, lt-leb}
@@ -18,7 +16,7 @@ use Rattle.tokens.specs.Tokens.{Tok, Placed, Spells, Ends, Before}
 use Rattle.tokens.specs.Finding.{Sized, sized, token-at}
 use Rattle.tokens.specs.Lexer.{Lexed, read, no-token, too-long, prepend, step, scan, lexed}
 use Rattle.tokens.specs.Reading.{Blanks, Front, Reads, ReadsAs, NoToken, Stops, Law}
-use Rattle.tokens.proofs.Sound.{Stands, Good, token-good}
+use Rattle.tokens.proofs.Sound.{Good, token-good}
 use Rattle.tokens.proofs.Complete.{token-complete, token-begins, Begins}
 
 -- ---- steps of the scan

@@ -1,6 +1,6 @@
 -- What is found at the front of a text is a token by its rule, and as long as can be. Assumes nothing.
 use mathlib.Core.Path.{_≡_, refl, sym, ap, subst, _∙_}
-use mathlib.Core.Bool.{Bool, true, false, cond, _&&_}
+use mathlib.Core.Bool.{true, false, _&&_}
 use mathlib.Core.Logic.{_⊎_, inl, inr, ⊎-elim}
 use mathlib.Core.List.{List, [], _∷_, _++_, append-assoc}
 use Prim.Native.Nat.{ℕ, suc, _+_, _≤_}
@@ -8,8 +8,7 @@ use native.Mathlib.Omega.{arith}
 use lib.Chars.{codes}
 use lib.Dec.{eqb, leb}
 use lib.ListN.{length, take, drop, take-append-drop, length-append}
-use Rattle.std.specs.Orderings.{Decides}
-use Rattle.std.specs.shelf.Lists.{All, leading}
+use Rattle.std.specs.shelf.Lists.{leading}
 use Rattle.std.specs.shelf.Text.{sameBytes}
 use Rattle.std.specs.declared.option.Option.{Option}
 use Rattle.std.specs.declared.option.Option.the-variants.{Some, None}
@@ -19,12 +18,12 @@ use Rattle.std.proofs.shelf.Sums.{leading-le-length}
 use Rattle.std.proofs.shelf.Tests.{cond-both, eqb-true, leb-true, and-parts, or-left, both-ways}
 use Rattle.tokens.specs.Bytes.{letter, digit, tail, operator, marking}
 use Rattle.tokens.specs.Marks.{name, grouped, groups-of}
-use Rattle.tokens.specs.Tokens.{Tok, word, symbol, literal, identifier, binder, bound, Spells, Ends, Before, Named, continues, spelling, sign, joins}
-use Rattle.tokens.specs.Finding.{Sized, sized, reserved, first-word, word-of, sign-of, operator-of, word-run, digit-run, operator-run, size-symbol, closes, binder-mark, bound-mark, mark, opened, token-at}
+use Rattle.tokens.specs.Tokens.{Tok, symbol, literal, Spells, Ends, Before, Named, spelling, sign}
+use Rattle.tokens.specs.Finding.{Sized, sized, reserved, first-word, word-of, operator-of, word-run, digit-run, operator-run, size-symbol, closes, binder-mark, bound-mark, mark, opened, token-at}
 use Rattle.tokens.specs.declared.token.Word.{Word}
 use Rattle.tokens.specs.declared.token.Word.the-variants.{Val, Fun, Let, In, End, If, Then, Else, Ref, Int, Div, Mod}
 use Rattle.tokens.specs.declared.token.Symbol.{Symbol}
-use Rattle.tokens.specs.declared.token.Symbol.the-variants.{Bang, Plus, Minus, Star, Less, Colon, Equals, Assign, Open, Close, Comma, Semicolon}
+use Rattle.tokens.specs.declared.token.Symbol.the-variants.{Open, Close, Comma, Semicolon}
 use Rattle.tokens.proofs.Fronts.{leading-yes, front-each, front-stops}
 use Rattle.tokens.proofs.Groups.{grouped-sound}
 

@@ -1,12 +1,12 @@
 -- Some texts and their tokens. Assumes nothing.
 use mathlib.Core.Path.{_≡_}
-use mathlib.Core.List.{List, [], _∷_, _++_}
+use mathlib.Core.List.{[], _∷_}
 use Prim.Native.Nat.{ℕ}
 use lib.Chars.{codes}
 use Rattle.tokens.specs.Tokens.{Tok, word, symbol, literal, identifier, binder, bound, Placed}
-use Rattle.tokens.specs.Lexer.{Lexed, read, no-token, too-long, lexed}
+use Rattle.tokens.specs.Lexer.{read, no-token, lexed}
 use Rattle.tokens.specs.declared.token.Word.the-variants.{Val, If, Then}
-use Rattle.tokens.specs.declared.token.Symbol.the-variants.{Bang, Less, Equals, Assign, Open, Close, Semicolon}
+use Rattle.tokens.specs.declared.token.Symbol.the-variants.{Bang, Less, Equals, Open, Close}
 
 abbrev at : ℕ → Tok → Placed
 at p t = record { place = p; tok = t }

@@ -1,14 +1,14 @@
 -- What it means that a text reads as tokens, and where it does not. Assumes nothing.
 use mathlib.Core.Path.{_≡_}
 use mathlib.Core.Bool.{true}
-use mathlib.Core.List.{List, [], _∷_, _++_, map}
+use mathlib.Core.List.{List, [], _∷_, _++_}
 use Prim.Native.Nat.{ℕ, _+_, _≤_, _<_}
 use lib.ListN.{length}
 use Rattle.std.specs.shelf.Lists.{All}
 use Rattle.refusals.specs.Refusals.{longest-text}
 use Rattle.tokens.specs.Bytes.{blank}
 use Rattle.tokens.specs.Tokens.{Tok, Placed, Spells, Ends, Before}
-use Rattle.tokens.specs.Lexer.{Lexed, read, no-token, too-long, lexed}
+use Rattle.tokens.specs.Lexer.{Lexed, read, no-token, too-long}
 
 abbrev pub Blanks : List ℕ → Type 0
 Blanks bs = All (λ b. blank b ≡ true) bs

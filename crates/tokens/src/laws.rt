@@ -1,4 +1,4 @@
-ghost use mathlib.Core.Path.{_≡_};
+// Theorems about the definitions that the contract of `lex` cites. What these functions answer means nothing.
 ghost use Rattle.tokens.specs.Local.{Stays, Joins, Splits, Moves, MovesBack, Marks, Inserts, Replaces};
 ghost use Rattle.tokens.specs.Examples.{Examples};
 

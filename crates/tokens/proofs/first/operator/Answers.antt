@@ -1,4 +1,4 @@
-use mathlib.Core.Path.{_≡_, sym, ap, _∙_}
+use mathlib.Core.Path.{ap, _∙_}
 use native.Mathlib.Nat.{sub-zero}
 use lib.ListN.{take}
 use Rattle.tokens.specs.Finding.{operator-of, operator-run, size-symbol}

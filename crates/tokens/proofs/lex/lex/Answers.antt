@@ -6,12 +6,12 @@ use native.Mathlib.Omega.{arith}
 use lib.ListN.{length, drop}
 use borrow.Author.Needs.{needs}
 use Rattle.std.specs.Of.Vec.{vec-items}
-use Rattle.std.specs.declared.option.Option.the-variants.{Some, None}
+use Rattle.std.specs.declared.option.Option.the-variants.{Some}
 use Rattle.std.proofs.shelf.Lists.{take-rest, map-push}
 use Rattle.std.proofs.shelf.Results.{err-from-errBy}
 use Rattle.refusals.specs.Refusals.{longest-text}
 use Rattle.tokens.specs.Meanings.{placed, meaning}
-use Rattle.tokens.specs.Finding.{Sized, token-at}
+use Rattle.tokens.specs.Finding.{token-at}
 use Rattle.tokens.specs.Lexer.{Lexed, scan, lexed}
 use Rattle.tokens.specs.Answers.{refusal-of}
 use Rattle.tokens.proofs.Scanning.{lexed-lawful, lexed-only}

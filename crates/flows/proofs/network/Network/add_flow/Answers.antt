@@ -3,7 +3,7 @@ use mathlib.Core.Bool.{true}
 use native.Mathlib.Omega.{arith}
 use Prim.Native.Nat.{_+_, _*_}
 use lib.ListN.{length}
-use Rattle.std.specs.Of.Vec.{vec-items, vec-len}
+use Rattle.std.specs.Of.Vec.{vec-items}
 use Rattle.flows.specs.Flows.{flow, inside}
 use Rattle.flows.specs.Reading.{Indexes}
 use Rattle.flows.proofs.Built.{closed-push, is-closed, indexes}

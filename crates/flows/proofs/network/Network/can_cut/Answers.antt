@@ -6,7 +6,7 @@ use Rattle.std.specs.Of.Vec.{vec-items}
 use Rattle.std.proofs.shelf.Tests.{both-ways}
 use Rattle.flows.specs.Networks.{Closed, Bounded}
 use Rattle.flows.proofs.network.Network.can_cut.Needs as need
-use Rattle.flows.proofs.network.Network.can_cut.Needs.{After-flows-inside, After-bounds-inside}
+use Rattle.flows.proofs.network.Network.can_cut.Needs.{After-flows-inside}
 
 kept-flows : (c : After-flows-inside) → take (c .args .to .flows - 0) (c .as-slice .result .now) ≡ take (c .args .to .flows) (vec-items (c .args .self .now .flows))
 kept-flows c =

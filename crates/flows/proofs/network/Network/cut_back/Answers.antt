@@ -1,15 +1,15 @@
-use mathlib.Core.Path.{_≡_, refl, sym, ap, subst, _∙_}
+use mathlib.Core.Path.{_≡_, sym, ap, subst, _∙_}
 use mathlib.Core.Bool.{true}
 use native.Mathlib.Omega.{arith}
 use Prim.Native.Nat.{_*_, _<_}
 use lib.ListN.{length}
 use lib.Seq.{length-take-le}
-use Rattle.std.specs.Of.Vec.{vec-items, vec-len}
+use Rattle.std.specs.Of.Vec.{vec-items}
 use Rattle.flows.specs.Bounds.{bound}
 use Rattle.flows.specs.Flows.{flow, inside}
 use Rattle.flows.specs.Networks.{contents, Earlier}
 use Rattle.flows.specs.Reading.{Indexes}
-use Rattle.flows.proofs.Built.{flows-long, bounds-long, indexes}
+use Rattle.flows.proofs.Built.{indexes}
 use Rattle.flows.proofs.network.Network.cut_back.Needs as need
 
 pub ghost-self : need.ghost-self

@@ -7,7 +7,7 @@ use Rattle.std.proofs.shelf.Sums.{folded-push}
 use Rattle.flows.specs.Pending.{pending}
 use Rattle.flows.specs.Queues.{joined}
 use Rattle.flows.specs.Reading.{so-far}
-use Rattle.flows.proofs.Built.{indexes, flows-long}
+use Rattle.flows.proofs.Built.{indexes}
 use Rattle.flows.proofs.Listed.{woken-all}
 use Rattle.flows.proofs.network.Network.wake.Needs as need
 

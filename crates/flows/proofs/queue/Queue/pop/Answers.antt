@@ -1,5 +1,4 @@
-use mathlib.Core.Path.{refl, sym, subst, _∙_}
-use native.Mathlib.Omega.{arith}
+use mathlib.Core.Path.{refl, sym, subst}
 use Prim.Native.Nat.{_<_}
 use Rattle.flows.proofs.Turns.{Popped, popped}
 use Rattle.flows.proofs.queue.Queue.pop.Needs as need

@@ -1,6 +1,5 @@
 use mathlib.Core.Path.{_∙_}
 use native.Mathlib.Omega.{arith}
-use Prim.Native.Nat.{_+_}
 use lib.ListN.{set}
 use Rattle.flows.proofs.Listed.{added, first-bound, second-bound}
 use Rattle.flows.proofs.readers.Readers.add.Needs as need

@@ -1,7 +1,6 @@
 use mathlib.Core.Path.{sym, subst}
 use native.Mathlib.Omega.{arith}
 use Prim.Native.Nat.{_-_, _<_}
-use Rattle.std.specs.Of.Vec.{vec-len}
 use Rattle.flows.specs.Limits.{list-count}
 use Rattle.flows.proofs.Walks.{variable-read, taken-back}
 use Rattle.flows.proofs.readers.Readers.unlink.Needs as need

@@ -9,7 +9,7 @@ use Rattle.flows.specs.Runs.{Ends}
 use Rattle.flows.proofs.Built.{targets, few, flows-long}
 use Rattle.flows.proofs.Once.{ends-once}
 use Rattle.flows.proofs.Queues.{numbered-length}
-use Rattle.flows.proofs.Settled.{goes-on, history-cost}
+use Rattle.flows.proofs.Settled.{goes-on, history-least, history-cost}
 use Rattle.flows.proofs.Solved.{start-fits, solved}
 use Rattle.flows.proofs.worklist.Worklist.settle.Given as given
 use Rattle.flows.proofs.worklist.Worklist.settle.Needs as need
@@ -44,5 +44,6 @@ returns g c =
       only = λ m other ends′. ends-once kind flows start _ m _ other _ ends′ ends;
       least = solved kind laws flows from start within _ _ ends;
       history = goes-on kind flows from start _ _ within ends;
+      settled = λ m history. history-least kind laws _ flows _ _ (goes-on kind flows from start _ _ within ends m history);
       cost = λ m history. history-cost kind laws _ flows _ _ (goes-on kind flows from start _ _ within ends m history);
     }
