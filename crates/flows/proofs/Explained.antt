@@ -8,7 +8,7 @@ use native.Mathlib.Omega.{arith}
 use lib.ListN.{length, set, length-replicate}
 use Rattle.std.specs.declared.option.Option.{Option}
 use Rattle.std.specs.declared.option.Option.the-variants.{Some, None}
-use Rattle.std.proofs.shelf.Tests.{both-ways, cases-eq, cases-order}
+use Rattle.std.proofs.shelf.Tests.{cases-bool, both-ways, cases-eq, cases-order}
 use Rattle.kinds.specs.declared.kind.Kind.{Ghosts as Kind}
 use Rattle.kinds.specs.Lawful.{Lawful}
 use Rattle.flows.specs.declared.flow.Flow.{Flow}
@@ -17,10 +17,10 @@ use Rattle.flows.specs.Flows.{held, flow, Within, Under}
 use Rattle.flows.specs.Bounds.{broken, bound, Unbroken, Lowest, Tested, Judged}
 use Rattle.flows.specs.Queues.{numbered}
 use Rattle.flows.specs.Runs.{Run, begins, passes, rises}
-use Rattle.flows.specs.Explaining.{Breaks, at-start, at-rise, Told, Leads, written, bottoms, Traced, Explained}
+use Rattle.flows.specs.Explaining.{Breaks, at-start, at-rise, Told, Leads, written, bottoms, Named, Traced, Explained}
 use Rattle.flows.proofs.Applied.{Fits, fits-first, fits-run}
 use Rattle.flows.proofs.Sound.{applied-grows, Sound, sound-rises, sound-run, sound-least}
-use Rattle.flows.proofs.Broken.{replays, broken-above, unbroken-below, always-judged, judged}
+use Rattle.flows.proofs.Broken.{bottom-everywhere, replays, broken-above, unbroken-below, always-judged, judged}
 use Rattle.flows.proofs.Solved.{bottoms-least, start-fits, start-sound}
 use Rattle.flows.proofs.Once.{State, state, reached, come, busy}
 
@@ -180,10 +180,21 @@ from-bottom kind flows size within =
     let all : length flows - 0 ≡ length flows = omega arith in
     subst (λ k. Fits kind flows (bottoms kind size) (numbered 0 k)) all (start-fits kind flows 0 (bottoms kind size) (subst (Within flows) (sym long) within))
 
+-- a bound on a name of the kind is not broken at bottom: the name's value is not bottom
+unbroken-bottoms : {K : Type 0} (kind : Kind K) (laws : Lawful kind) (bounds : List Bound) (size : ℕ) → Named kind bounds → Unbroken kind bounds (held kind (bottoms kind size))
+unbroken-bottoms kind laws bounds size named i inside =
+    let x = bound bounds i in
+    let low = bottom-everywhere kind size (x .variable) in
+    ⊎-elim
+    (λ breaks. absurd (laws .naming .raised (x .name) (named i inside) (laws .order .antisymmetric (kind .value (x .name)) (kind .bottom) (subst (λ v. kind .below (kind .value (x .name)) v ≡ true) low breaks) (laws .order .least (kind .value (x .name))))))
+    (λ kept. kept)
+    (cases-bool (broken kind (held kind (bottoms kind size)) x))
+
 pub explained : {K : Type 0} (kind : Kind K) (laws : Lawful kind) (flows : List Flow) (bounds : List Bound) (size : ℕ) (told : Option ℕ) (count : ℕ) (list list′ : List ℕ) (after : List K) → Within flows size
     → Traced kind flows bounds (bottoms kind size) (numbered 0 (length flows)) told count list list′ after → Explained kind flows bounds size told count list list′ after
 explained kind laws flows bounds size told count list list′ after within traced = record {
   traced = traced;
+  starts = unbroken-bottoms kind laws bounds size;
   only = λ told′ risen′ after′ run′. told-once kind laws flows bounds (bottoms kind size) (numbered 0 (length flows)) (from-bottom kind flows size within) told′ told risen′ (traced .risen) after′ after run′ (traced .run);
   leads = told-leads kind flows bounds (bottoms kind size) (numbered 0 (length flows)) told (traced .risen) after (traced .run);
   judged = told-judged kind laws flows bounds size told (traced .risen) after within (traced .run);

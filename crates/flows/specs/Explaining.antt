@@ -2,7 +2,7 @@
 use mathlib.Core.Path.{_≡_}
 use mathlib.Core.Bool.{true, false}
 use mathlib.Core.List.{List, [], _∷_, _++_}
-use Prim.Native.Nat.{ℕ}
+use Prim.Native.Nat.{ℕ, _<_}
 use lib.ListN.{length, replicate}
 use Rattle.std.specs.Iters.{folded}
 use Rattle.std.specs.declared.option.Option.{Option}
@@ -16,8 +16,7 @@ use Rattle.flows.specs.Queues.{numbered}
 use Rattle.flows.specs.Runs.{applied, Run}
 
 -- a run stops as soon as a bound is broken, the lowest of them b: at its start, or at the first rise after which one is. These flows
--- rose, in this order, and these are the values then. (At the start no bound on a name of the kind is broken: such a name's
--- value is not bottom.)
+-- rose, in this order, and these are the values then
 pub data Breaks {K : Type 0} (kind : Kind K) (flows : List Flow) (bounds : List Bound) (start : List K) (first : List ℕ) (b : ℕ) : List ℕ → List K → Type 0 where
   at-start : Lowest kind bounds (held kind start) b → Breaks kind flows bounds start first b [] start
   at-rise : {values : List K} {i : ℕ} {queue : List ℕ} {n : ℕ} {risen : List ℕ}
@@ -53,6 +52,10 @@ written [] list = list
 written (n ∷ numbers) [] = []
 written (n ∷ numbers) (x ∷ list) = n ∷ written numbers list
 
+-- every bound has a name of the kind
+abbrev pub Named : {K : Type 0} → Kind K → List Bound → Type 0
+Named kind bounds = (i : ℕ) → i < length bounds → bound bounds i .name < kind .names
+
 -- every variable is bottom
 abbrev pub bottoms : {K : Type 0} → Kind K → ℕ → List K
 bottoms kind n = replicate n (kind .bottom)
@@ -67,6 +70,8 @@ pub record Traced {K : Type 0} (kind : Kind K) (flows : List Flow) (bounds : Lis
 -- the explaining run, over all flows in number order, with every variable at bottom first
 pub record Explained {K : Type 0} (kind : Kind K) (flows : List Flow) (bounds : List Bound) (size : ℕ) (told : Option ℕ) (rises : ℕ) (list list′ : List ℕ) (after : List K) : Type 0 where
   pub traced : Traced kind flows bounds (bottoms kind size) (numbered 0 (length flows)) told rises list list′ after
+  -- where every bound has a name of the kind, none is broken at bottom: the run then stops at a rise, or at its end
+  pub starts : Named kind bounds → Unbroken kind bounds (held kind (bottoms kind size))
   -- nothing else can be told
   pub only : (told′ : Option ℕ) (risen′ : List ℕ) (after′ : List K) → Told kind flows bounds (bottoms kind size) (numbered 0 (length flows)) told′ risen′ after′
       → (told′ ≡ told) × (risen′ ≡ traced .risen) × (after′ ≡ after)
