@@ -3,6 +3,7 @@ pub mod Lawful
 pub mod Origins
 pub mod SourceSets
 pub mod Pairs
+pub mod PairRanks
 pub mod Find
 pub mod Tables
 pub mod OriginLaws

@@ -1,5 +1,6 @@
 ghost use Rattle.kinds.specs.Pairs.{side_by_side};
 ghost use Rattle.std.proofs.Common.{rules};
+ghost use Rattle.kinds.specs.PairRanks.{pair_ranks};
 
 use super::kind::{Height, Kind, NameNumber, PlainKind};
 use super::operators::OperatorNumber;
@@ -29,6 +30,8 @@ impl<A: PlainKind, B: PlainKind> Kind for Pair<A, B> {
     ghost spelling = { (side_by_side A.Kind B.Kind).spelling };
 
     ghost value = { (side_by_side A.Kind B.Kind).value };
+
+    ghost lawful = { record { order = Prim.search rules; ranks = pair_ranks A.Kind.own B.Kind.own A.lawful B.lawful; operators = Prim.search rules; naming = Prim.search rules } };
 
     ghost limits = { Prim.search rules };
 

@@ -3,4 +3,4 @@ use Rattle.kinds.proofs.table.Spellings.of.Goals as goal
 
 pub returns : goal.returns
 returns g c =
-    record { copies = c.copy-spellings.ensures; finds = same_number g.K.Kind c.copy-spellings.result c.copy-spellings.ensures }
+    record { copies = c.copy_spellings.ensures; finds = same_number g.K.Kind c.copy_spellings.result c.copy_spellings.ensures }
