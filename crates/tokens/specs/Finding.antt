@@ -65,7 +65,7 @@ operator_run n bs = size_symbol n (operator_of (take n bs))
 abbrev pub closes : List ℕ → Bool
 closes [] = false
 closes (a ∷ []) = false
-closes (a ∷ b ∷ bs) = a == (byte "*") && (b == (byte "))")
+closes (a ∷ b ∷ bs) = a == byte "*" && b == byte ")"
 
 -- what follows `(*$`, n bytes of which may stand in the mark
 abbrev pub binder_mark : ℕ → List ℕ → Option Sized
@@ -94,6 +94,6 @@ token_at (b ∷ bs) =
     (cond (digit b) (digit_run (prefix_len digit (b ∷ bs)) (b ∷ bs))
     (cond (operator b) (operator_run (prefix_len operator (b ∷ bs)) (b ∷ bs))
     (cond (nat_eq b (byte "(")) (opened bs)
-    (cond ((b == (byte "))")) (sized 1 (symbol Close))
+    (cond (b == byte ")") (sized 1 (symbol Close))
     (cond (b == (byte ",")) (sized 1 (symbol Comma))
     (cond (b == (byte ";")) (sized 1 (symbol Semicolon)) None))))))

@@ -11,7 +11,7 @@ returns-then-same-bytes c =
 
 pub loop-word-preserved : goal.loop-word-preserved
 loop-word-preserved c =
-    sym (word_passed reserved c.loop-word.word-index _ c.args.run.now _ c.loop-word-test.true c.text.ensures (λ same. false≢true (c.if-same-bytes.ensures.1 same)))
+    sym (word_passed reserved c.loop-word.word-index _ c.args.run.now _ c.loop-word-test.true c.text.ensures (λ same. false≢true (c.if-same_bytes.ensures.1 same)))
     ∙ c.loop-word.invariant
 
 pub returns : goal.returns

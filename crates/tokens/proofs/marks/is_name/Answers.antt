@@ -9,5 +9,5 @@ pub returns : goal.returns
 returns c =
     let bytes = c.args.bytes.now in
     let some : 1 ≤ length bytes = omega (arith, c.if-len-eq0.false) in
-    ap (λ n. eqb n (length bytes)) c.run-len.ensures.run ∙ all_leading letter bytes
-    ∙ sym (short_name bytes some (leb-true (length bytes) longest_name (sym c.if-not-is-short.ensures)))
+    ap (λ n. eqb n (length bytes)) c.run_len.ensures.run ∙ all_leading letter bytes
+    ∙ sym (short_name bytes some (leb-true (length bytes) longest_name (sym c.if-not-is_short.ensures)))
