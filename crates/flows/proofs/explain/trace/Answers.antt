@@ -37,17 +37,17 @@ pub overflow-add-rises : goal.overflow-add-rises
 overflow-add-rises g c =
     omega (arith, c.loop-number.invariant.4, turn_rises_few g.K.Kind g.met.K.Kind.lawful _ _ _ (fits g (goal.at.overflow-add-rises g c).In-Some) g.met.K.Kind.limits.low (few c.args.network.now) c.requires.few _ _ _ _ c.loop-number.invariant.2)
 
-pub loop-number-smaller-in-default-first-broken : goal.loop-number-smaller-in-default-first-broken
-loop-number-smaller-in-default-first-broken g c =
-    turn_falls g.K.Kind g.met.K.Kind.lawful _ _ _ (fits g (goal.at.loop-number-smaller-in-default-first-broken g c).In-Some) _ _ _ _ _ _ _ _ _ c.loop-number.invariant.2 c.in-Some.ensures c.evaluate.ensures
+pub loop-number-smaller-in-default-first_broken : goal.loop-number-smaller-in-default-first_broken
+loop-number-smaller-in-default-first_broken g c =
+    turn_falls g.K.Kind g.met.K.Kind.lawful _ _ _ (fits g (goal.at.loop-number-smaller-in-default-first_broken g c).In-Some) _ _ _ _ _ _ _ _ _ c.loop-number.invariant.2 c.in-Some.ensures c.evaluate.ensures
 
-pub loop-number-preserved-in-default-first-broken : goal.loop-number-preserved-in-default-first-broken
-loop-number-preserved-in-default-first-broken g c =
+pub loop-number-preserved-in-default-first_broken : goal.loop-number-preserved-in-default-first_broken
+loop-number-preserved-in-default-first_broken g c =
     let (n, risen, run, whole, counted, listed) = c.loop-number.invariant in (
       n + 1,
       risen ++ c.in-Some.number ∷ [],
-      turn g.K.Kind g.met.K.Kind.lawful _ _ _ (fits g (goal.at.loop-number-preserved-in-default-first-broken g c).In-Some) _ _ _ _ _ _ _ _ _ run c.in-Some.ensures c.if-evaluate.ensures,
-      c.in-default-first-broken.ensures.lowest,
+      turn g.K.Kind g.met.K.Kind.lawful _ _ _ (fits g (goal.at.loop-number-preserved-in-default-first_broken g c).In-Some) _ _ _ _ _ _ _ _ _ run c.in-Some.ensures c.if-evaluate.ensures,
+      c.in-default-first_broken.ensures.lowest,
       omega (arith, counted, length_push risen c.in-Some.number),
       noted _ _ _ _ _ _ counted listed c.note.ensures,
     )
@@ -64,15 +64,15 @@ loop-number-preserved g c =
       listed,
     )
 
-pub returns-in-Some-first-broken : goal.returns-in-Some-first-broken
-returns-in-Some-first-broken g c =
+pub returns-in-Some-first_broken : goal.returns-in-Some-first_broken
+returns-in-Some-first_broken g c =
     let kind = g.K.Kind in
     let flows = vec_items c.args.network.now.flows in
     let bounds = vec_items c.args.network.now.bounds in
-    let b = c.in-Some-first-broken.bound in
+    let b = c.in-Some-first_broken.bound in
     let (n, risen, run, whole, counted, listed) = c.loop-number.invariant in
     let rose = c.if-evaluate.ensures in
-    let lowest = subst (λ vs. Lowest kind bounds (held kind vs) b) rose.after c.in-Some-first-broken.ensures.lowest in
+    let lowest = subst (λ vs. Lowest kind bounds (held kind vs) b) rose.after c.in-Some-first_broken.ensures.lowest in
     record {
       risen = risen ++ c.in-Some.number ∷ [];
       run = subst (Breaks kind flows bounds c.args.values.now (pending c.args.queue.now) b (risen ++ c.in-Some.number ∷ [])) (sym rose.after)

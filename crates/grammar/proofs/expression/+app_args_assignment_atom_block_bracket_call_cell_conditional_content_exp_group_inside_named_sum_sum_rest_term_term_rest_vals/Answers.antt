@@ -20,7 +20,7 @@ conditional-returns-in-Ok t c =
 
 pub sum-returns-in-Ok : goal.sum-returns-in-Ok
 sum-returns-in-Ok t c =
-    both_read c.args.reader.end c.args.depth sum term terms (λ n. refl) (sum_opens c.args.reader.end) 2 3 (omega arith) (seen c.args.ts) (c.in-Ok.left, c.in-Ok.rest) c.sum-rest.result c.in-Ok.ensures c.sum-rest.ensures
+    both_read c.args.reader.end c.args.depth sum term terms (λ n. refl) (sum_opens c.args.reader.end) 2 3 (omega arith) (seen c.args.ts) (c.in-Ok.left, c.in-Ok.rest) c.sum_rest.result c.in-Ok.ensures c.sum_rest.ensures
 
 pub sum-returns-in-Err : goal.sum-returns-in-Err
 sum-returns-in-Err t c =
@@ -28,20 +28,20 @@ sum-returns-in-Err t c =
 
 pub term-returns-in-Ok : goal.term-returns-in-Ok
 term-returns-in-Ok t c =
-    both_read c.args.reader.end c.args.depth term app apps (λ n. refl) (term_opens c.args.reader.end) 1 2 (omega arith) (seen c.args.ts) (c.in-Ok.left, c.in-Ok.rest) c.term-rest.result c.in-Ok.ensures c.term-rest.ensures
+    both_read c.args.reader.end c.args.depth term app apps (λ n. refl) (term_opens c.args.reader.end) 1 2 (omega arith) (seen c.args.ts) (c.in-Ok.left, c.in-Ok.rest) c.term_rest.result c.in-Ok.ensures c.term_rest.ensures
 
 pub term-returns-in-Err : goal.term-returns-in-Err
 term-returns-in-Err t c =
     first_fails c.args.reader.end c.args.depth term app apps (λ n. refl) (term_opens c.args.reader.end) (seen c.args.ts) c.in-Err.fault c.in-Err.ensures
 
-pub vals-returns-in-Ok-bound-more : goal.vals-returns-in-Ok-bound-more
-vals-returns-in-Ok-bound-more t c =
+pub vals-returns-in-Ok-bound_more : goal.vals-returns-in-Ok-bound_more
+vals-returns-in-Ok-bound_more t c =
     let head = c.in-ok-name in
-    vals_more c.args.reader.end c.args.depth (seen c.args.ts) (head.name, head.mark, head.rest) (c.in-ok-e.e, c.in-ok-e.rest) c.in-Some.rest (c.in-Ok.vals, c.in-Ok.rest) c.in-Ok-bound-more.vals
-    head.ensures c.in-ok-e.ensures c.in-Some.ensures c.in-Ok.ensures c.in-Ok-bound-more.ensures
+    vals_more c.args.reader.end c.args.depth (seen c.args.ts) (head.name, head.mark, head.rest) (c.in-ok-e.e, c.in-ok-e.rest) c.in-Some.rest (c.in-Ok.vals, c.in-Ok.rest) c.in-Ok-bound_more.vals
+    head.ensures c.in-ok-e.ensures c.in-Some.ensures c.in-Ok.ensures c.in-Ok-bound_more.ensures
 
-pub vals-returns-in-Ok-bound-last : goal.vals-returns-in-Ok-bound-last
-vals-returns-in-Ok-bound-last t c =
+pub vals-returns-in-Ok-bound_last : goal.vals-returns-in-Ok-bound_last
+vals-returns-in-Ok-bound_last t c =
     let head = c.in-ok-name in
-    vals_last c.args.reader.end c.args.depth (seen c.args.ts) (head.name, head.mark, head.rest) (c.in-ok-e.e, c.in-ok-e.rest) c.in-Ok-bound-last.vals
-    head.ensures c.in-ok-e.ensures c.in-None.ensures c.in-Ok-bound-last.ensures
+    vals_last c.args.reader.end c.args.depth (seen c.args.ts) (head.name, head.mark, head.rest) (c.in-ok-e.e, c.in-ok-e.rest) c.in-Ok-bound_last.vals
+    head.ensures c.in-ok-e.ensures c.in-None.ensures c.in-Ok-bound_last.ensures

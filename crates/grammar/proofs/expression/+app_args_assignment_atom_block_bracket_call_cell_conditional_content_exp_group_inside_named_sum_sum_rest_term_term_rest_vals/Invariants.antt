@@ -48,14 +48,14 @@ decreases-named l = 8 * length (seen l.ts) + 1
 abbrev pub decreases-sum : goal.decreases-sum
 decreases-sum l = 8 * length (seen l.ts) + 4
 
-abbrev pub decreases-sum-rest : goal.decreases-sum-rest
-decreases-sum-rest l = 8 * length (seen l.ts) + 1
+abbrev pub decreases-sum_rest : goal.decreases-sum_rest
+decreases-sum_rest l = 8 * length (seen l.ts) + 1
 
 abbrev pub decreases-term : goal.decreases-term
 decreases-term l = 8 * length (seen l.ts) + 3
 
-abbrev pub decreases-term-rest : goal.decreases-term-rest
-decreases-term-rest l = 8 * length (seen l.ts) + 1
+abbrev pub decreases-term_rest : goal.decreases-term_rest
+decreases-term_rest l = 8 * length (seen l.ts) + 1
 
 abbrev pub decreases-vals : goal.decreases-vals
 decreases-vals l = 8 * length (seen l.ts) + 1

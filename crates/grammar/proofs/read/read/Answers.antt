@@ -20,7 +20,7 @@ pub returns : goal.returns
 returns c =
     let text = c.args.text.now in
     record {
-      answer = text_read (length text) (seen c.as-slice.result) (lexed text) c.parse.result (c.in-ok-tokens.ensures.answer ∙ ap (λ l. read (map placed l)) (sym c.as-slice.ensures.value)) c.parse.ensures.answer;
+      answer = text_read (length text) (seen c.as_slice.result) (lexed text) c.parse.result (c.in-ok-tokens.ensures.answer ∙ ap (λ l. read (map placed l)) (sym c.as_slice.ensures.value)) c.parse.ensures.answer;
       some = some_reading (length text) (lexed text);
       only = only_reading (length text) (lexed text);
     }

@@ -6,7 +6,7 @@ use Rattle.making.proofs.settling.fill.Goals as goal
 pub loop-i-preserved : goal.loop-i-preserved
 loop-i-preserved c =
     let old = contents c.loop-i.network in
-    let after = c.add-variable.ensures.after in
+    let after = c.add_variable.ensures.after in
     let inv = c.loop-i.invariant in
     (more_variables old _ after c.loop-i.i c.loop-i-test.true inv.0, more_flows old _ after ∙ inv.1, more_bounds old _ after ∙ inv.2)
 

@@ -3,15 +3,15 @@ use Rattle.tokens.specs.Marks.{name}
 use Rattle.tokens.specs.Tokens.{bound}
 use Rattle.tokens.proofs.Opening.{unclosed, ill_formed, well_formed}
 use Rattle.tokens.proofs.first.bound.Goals as goal
-use Rattle.tokens.proofs.first.bound.Goals.{else-ends-mark-via-then-ends-mark+else-is-name, else-ends-mark-via-else-ends-mark}
+use Rattle.tokens.proofs.first.bound.Goals.{else-ends_mark-via-then-ends_mark+else-is_name, else-ends_mark-via-else-ends_mark}
 
-pub returns-else-ends-mark : goal.returns-else-ends-mark
-returns-else-ends-mark c =
-    elim c.else-ends-mark.branch [
-      | else-ends-mark-via-then-ends-mark+else-is-name w ↦ ill_formed letter name bound c.args.text.now _ c.run-len-len.ensures.run w.if-is-name.ensures
-      | else-ends-mark-via-else-ends-mark w ↦ unclosed letter name bound c.args.text.now _ c.run-len-len.ensures.run w.if-ends-mark.ensures
+pub returns-else-ends_mark : goal.returns-else-ends_mark
+returns-else-ends_mark c =
+    elim c.else-ends_mark.branch [
+      | else-ends_mark-via-then-ends_mark+else-is_name w ↦ ill_formed letter name bound c.args.text.now _ c.run_len-len.ensures.run w.if-is_name.ensures
+      | else-ends_mark-via-else-ends_mark w ↦ unclosed letter name bound c.args.text.now _ c.run_len-len.ensures.run w.if-ends_mark.ensures
     ]
 
-pub returns-then-is-name : goal.returns-then-is-name
-returns-then-is-name c =
-    well_formed letter name bound c.args.text.now _ c.run-len-len.ensures.run c.if-ends-mark.ensures c.if-is-name.ensures
+pub returns-then-is_name : goal.returns-then-is_name
+returns-then-is_name c =
+    well_formed letter name bound c.args.text.now _ c.run_len-len.ensures.run c.if-ends_mark.ensures c.if-is_name.ensures

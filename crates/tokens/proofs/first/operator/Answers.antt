@@ -7,5 +7,5 @@ use Rattle.tokens.proofs.first.operator.Goals as goal
 pub returns-in-err-symbol : goal.returns-in-err-symbol
 returns-in-err-symbol c =
     ap found_as c.from-residual.ensures
-    ∙ ap (size_symbol c.run-len-len.result) (c.in-err-symbol.ensures ∙ ap (λ n. operator_of (take n c.args.text.now)) (sub-zero c.run-len-len.result))
-    ∙ ap (λ n. operator_run n c.args.text.now) c.run-len-len.ensures.run
+    ∙ ap (size_symbol c.run_len-len.result) (c.in-err-symbol.ensures ∙ ap (λ n. operator_of (take n c.args.text.now)) (sub-zero c.run_len-len.result))
+    ∙ ap (λ n. operator_run n c.args.text.now) c.run_len-len.ensures.run

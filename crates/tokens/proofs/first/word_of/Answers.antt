@@ -4,9 +4,9 @@ use Rattle.tokens.specs.Finding.{reserved}
 use Rattle.tokens.proofs.Words.{word_found, word_passed, words_passed}
 use Rattle.tokens.proofs.first.word_of.Goals as goal
 
-pub returns-then-same-bytes : goal.returns-then-same-bytes
-returns-then-same-bytes c =
-    sym (word_found reserved c.loop-word.word-index _ c.args.run.now _ c.loop-word-test.true c.text.ensures (c.if-same-bytes.ensures.0 refl))
+pub returns-then-same_bytes : goal.returns-then-same_bytes
+returns-then-same_bytes c =
+    sym (word_found reserved c.loop-word.word-index _ c.args.run.now _ c.loop-word-test.true c.text.ensures (c.if-same_bytes.ensures.0 refl))
     ∙ c.loop-word.invariant
 
 pub loop-word-preserved : goal.loop-word-preserved

@@ -14,13 +14,13 @@ use Rattle.tokens.proofs.lex.lex.Goals as goal
 computed : (text : List ℕ) (l : Lexed) → length text ≤ longest_text → scan 0 0 text ≡ l → lexed text ≡ l
 computed text l short e = lexed_scan text short ∙ e
 
-pub loop-place-preserved-then-is-blank : goal.loop-place-preserved-then-is-blank
-loop-place-preserved-then-is-blank c =
-    turn_blank c.args.text.now _ c.loop-place.place c.loop-place.invariant c.loop-place-test.true (sym c.if-is-blank.ensures)
+pub loop-place-preserved-then-is_blank : goal.loop-place-preserved-then-is_blank
+loop-place-preserved-then-is_blank c =
+    turn_blank c.args.text.now _ c.loop-place.place c.loop-place.invariant c.loop-place-test.true (sym c.if-is_blank.ensures)
 
 pub returns-in-default : goal.returns-in-default
 returns-in-default c =
-    let told = computed c.args.text.now _ (omega arith) (turn_stop c.args.text.now _ c.loop-place.place c.loop-place.invariant c.loop-place-test.true (sym c.if-is-blank.ensures) (ap token_at (sym (take_rest c.args.text.now c.loop-place.place)) ∙ sym c.in-default.ensures)) in
+    let told = computed c.args.text.now _ (omega arith) (turn_stop c.args.text.now _ c.loop-place.place c.loop-place.invariant c.loop-place-test.true (sym c.if-is_blank.ensures) (ap token_at (sym (take_rest c.args.text.now c.loop-place.place)) ∙ sym c.in-default.ensures)) in
     record { answer = inr (ap refusal_of told); law = lexed_lawful c.args.text.now; only = lexed_only c.args.text.now }
 
 pub returns-in-err-push : goal.returns-in-err-push
@@ -34,8 +34,8 @@ found c = ap token_at (sym (take_rest c.args.text.now c.loop-place.place)) ∙ s
 within : (c : goal.In-ok-push) → (1 ≤ c.in-Some.found.len) × (c.loop-place.place + c.in-Some.found.len ≤ length c.args.text.now)
 within c = turn_within c.args.text.now _ c.loop-place.place c.loop-place.invariant _ (found c)
 
-pub overflow-add-place-else-is-blank : goal.overflow-add-place-else-is-blank
-overflow-add-place-else-is-blank c = let h = within c in search rules
+pub overflow-add-place-else-is_blank : goal.overflow-add-place-else-is_blank
+overflow-add-place-else-is_blank c = let h = within c in search rules
 
 pub loop-place-smaller : goal.loop-place-smaller
 loop-place-smaller c = omega (arith, (within c).0, (within c).1)

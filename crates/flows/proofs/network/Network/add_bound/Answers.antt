@@ -7,8 +7,8 @@ pub invariant-of-self-2 : goal.invariant-of-self-2
 invariant-of-self-2 c =
     let n = c.args.self.now in
     let vars = n.counts.variables in
-    let pushed = c.push-reserved.ensures in
-    let long = c.push-reserved.new.self.ok.0 in (
+    let pushed = c.push_reserved.ensures in
+    let long = c.push_reserved.new.self.ok.0 in (
       n.flow_count,
       (
         pushed.len ∙ ap (λ k. k + 1) n.bound_count,

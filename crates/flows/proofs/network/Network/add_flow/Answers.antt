@@ -8,10 +8,10 @@ pub invariant-of-self-2 : goal.invariant-of-self-2
 invariant-of-self-2 c =
     let n = c.args.self.now in
     let vars = n.counts.variables in
-    let pushed = c.push-reserved.ensures in
-    let long = c.push-reserved.new.self.ok.0 in
-    let fits : inside vars c.args.flow ≡ true = sym c.flow-inside.ensures ∙ c.if-not-flow-inside.false in
-    let new : Indexes c.add.new.self (vec_items c.push-reserved.new.self) = subst (Indexes c.add.new.self) (sym pushed.items) (c.add.ensures _ (indexes n)) in (
+    let pushed = c.push_reserved.ensures in
+    let long = c.push_reserved.new.self.ok.0 in
+    let fits : inside vars c.args.flow ≡ true = sym c.flow_inside.ensures ∙ c.if-not-flow_inside.false in
+    let new : Indexes c.add.new.self (vec_items c.push_reserved.new.self) = subst (Indexes c.add.new.self) (sym pushed.items) (c.add.ensures _ (indexes n)) in (
       pushed.len ∙ ap (λ k. k + 1) n.flow_count,
       (
         n.bound_count,

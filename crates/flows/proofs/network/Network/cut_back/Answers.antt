@@ -16,8 +16,8 @@ invariant-of-self c =
     let items' = c.truncate-2.ensures.items in
     let long = flows.ok.0 in
     let long' = bounds.ok.0 in
-    let earlier : Earlier (contents n) to = c.can-cut.ensures.0 c.if-not-can-cut.false in
-    let new : Indexes c.cut-to.new.self (vec_items flows) = subst (Indexes c.cut-to.new.self) (sym items) (c.cut-to.ensures _ (indexes n)) in (
+    let earlier : Earlier (contents n) to = c.can_cut.ensures.0 c.if-not-can_cut.false in
+    let new : Indexes c.cut_to.new.self (vec_items flows) = subst (Indexes c.cut_to.new.self) (sym items) (c.cut_to.ensures _ (indexes n)) in (
       long ∙ ap length items ∙ length-take-le to.flows (vec_items n.flows) earlier.flows,
       (
         long' ∙ ap length items' ∙ length-take-le to.bounds (vec_items n.bounds) earlier.bounds,

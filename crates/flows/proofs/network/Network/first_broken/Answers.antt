@@ -7,6 +7,6 @@ pub returns : goal.returns
 returns g c =
     let n = c.args.self.now in
     record {
-      lowest = c.lowest-broken.ensures;
-      exact = λ least. judged g.K.Kind g.met.K.Kind.lawful (vec_items n.flows) (vec_items n.bounds) (held g.K.Kind c.args.values.now) _ least c.lowest-broken.ensures;
+      lowest = c.lowest_broken.ensures;
+      exact = λ least. judged g.K.Kind g.met.K.Kind.lawful (vec_items n.flows) (vec_items n.bounds) (held g.K.Kind c.args.values.now) _ least c.lowest_broken.ensures;
     }

@@ -1,15 +1,15 @@
 use Rattle.std.proofs.Common.{◌<◌, sym, refl, subst}
 use Rattle.flows.proofs.Turns.{Popped, popped}
 use Rattle.flows.proofs.queue.Queue.pop.Goals as goal
-use Rattle.flows.proofs.queue.Queue.pop.Goals.{After-entry-at-self}
+use Rattle.flows.proofs.queue.Queue.pop.Goals.{After-entry_at-self}
 
 pub index-mut-requires : goal.index-mut-requires
 index-mut-requires c =
     let q = c.args.self.now in
     subst (λ n. c.index-number.result.now < n) (sym q.flagged) (popped q _ _ c.if-self-eq0.false c.index-number.ensures refl).known
 
-leaves : (c : After-entry-at-self) → Popped c.args.self.now c.index-number.result.now c.entry-at-self.result
-leaves c = popped c.args.self.now _ _ c.if-self-eq0.false c.index-number.ensures c.entry-at-self.ensures
+leaves : (c : After-entry_at-self) → Popped c.args.self.now c.index-number.result.now c.entry_at-self.result
+leaves c = popped c.args.self.now _ _ c.if-self-eq0.false c.index-number.ensures c.entry_at-self.ensures
 
 pub invariant-of-self : goal.invariant-of-self
 invariant-of-self c =
@@ -18,4 +18,4 @@ invariant-of-self c =
     (kept.flags, (kept.once, (kept.counted, (q.placed, (q.flagged, ((leaves c).starts, tt))))))
 
 pub returns : goal.returns
-returns c = (leaves (goal.at.returns c).After-entry-at-self).items
+returns c = (leaves (goal.at.returns c).After-entry_at-self).items

@@ -4,31 +4,31 @@ use Rattle.flows.specs.Queues.{waits}
 use Rattle.flows.specs.Pending.{pending}
 use Rattle.flows.proofs.Turns.{Pushed, pushed, flag_read}
 use Rattle.flows.proofs.queue.Queue.push.Goals as goal
-use Rattle.flows.proofs.queue.Queue.push.Goals.{After-entry-at-at}
+use Rattle.flows.proofs.queue.Queue.push.Goals.{After-entry_at-at}
 
-free : (c : After-entry-at-at) → waits c.args.number (pending c.args.self.now) ≡ false
+free : (c : After-entry_at-at) → waits c.args.number (pending c.args.self.now) ≡ false
 free c = flag_read c.args.self.now c.args.number _ c.requires c.index.ensures ∙ c.if-not-index.true
 
-leaves : (c : After-entry-at-at) → Pushed c.args.self.now c.args.number c.entry-at-at.result
-leaves c = pushed c.args.self.now c.args.number _ c.requires (free c) c.entry-at-at.ensures
+leaves : (c : After-entry_at-at) → Pushed c.args.self.now c.args.number c.entry_at-at.result
+leaves c = pushed c.args.self.now c.args.number _ c.requires (free c) c.entry_at-at.ensures
 
 pub index-mut-requires : goal.index-mut-requires
 index-mut-requires c =
     let q = c.args.self.now in
-    subst (λ n. c.entry-at-at.result < n) (sym q.placed) (leaves (goal.at.index-mut-requires c).After-entry-at-at).inside
+    subst (λ n. c.entry_at-at.result < n) (sym q.placed) (leaves (goal.at.index-mut-requires c).After-entry_at-at).inside
 
 pub overflow-add-self : goal.overflow-add-self
-overflow-add-self c = omega (arith, (leaves (goal.at.overflow-add-self c).After-entry-at-at).room)
+overflow-add-self c = omega (arith, (leaves (goal.at.overflow-add-self c).After-entry_at-at).room)
 
 pub invariant-of-self : goal.invariant-of-self
 invariant-of-self c =
-    let kept = (leaves (goal.at.invariant-of-self c).After-entry-at-at).kept in
+    let kept = (leaves (goal.at.invariant-of-self c).After-entry_at-at).kept in
     let q = c.args.self.now in
     (kept.flags, (kept.once, (kept.counted, (q.placed, (q.flagged, (q.started, tt))))))
 
 pub returns-then-not-index : goal.returns-then-not-index
 returns-then-not-index c =
-    let here = (goal.at.returns-then-not-index c).After-entry-at-at in
+    let here = (goal.at.returns-then-not-index c).After-entry_at-at in
     (leaves here).items ∙ sym (cond-false _ _ _ (free here))
 
 pub returns-else-not-index : goal.returns-else-not-index

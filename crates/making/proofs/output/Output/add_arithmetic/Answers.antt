@@ -13,6 +13,6 @@ pub returns : goal.returns
 returns c base x y s u =
     then _ (met _ _ (equal_is x s 0 c.if-a-ne0.false))
     (λ _ _. then _ (met _ _ (equal_is y u 0 c.if-b-ne0.false))
-    (λ _ _. then _ (c.new-type-t.ensures base)
-    (λ t v. then _ (c.add-operator.ensures base (Some x.first) (Some y.first) t.first (ap Some (same_first x s)) (ap Some (same_first y u)) (same_first t v))
+    (λ _ _. then _ (c.new_type-t.ensures base)
+    (λ t v. then _ (c.add_operator.ensures base (Some x.first) (Some y.first) t.first (ap Some (same_first x s)) (ap Some (same_first y u)) (same_first t v))
     (λ _ _. done v))))

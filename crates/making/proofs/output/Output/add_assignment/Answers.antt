@@ -16,4 +16,4 @@ pub returns : goal.returns
 returns c base x y z s u v =
     then _ (met _ _ (above_is x s 0 (omega (arith, c.if-p-eq0.false))))
     (λ _ _. then _ (met _ _ (equal_is y u (x.depth - 1) (c.if-e-p.false ∙ ap (λ d. d - 1) (same_depth x s))))
-    (λ _ _. then _ (c.flow-into.ensures base y (from_1 x) u (c.below.ensures x s)) (λ _ _. done v)))
+    (λ _ _. then _ (c.flow_into.ensures base y (from_1 x) u (c.below.ensures x s)) (λ _ _. done v)))

@@ -11,8 +11,8 @@ returns-then-len-lt-MOST-BINDERS c base b e =
         _,
         refl,
         refl,
-        binder_held base c.args.self.now _ m b c.args.binder refl refl refl refl c.saturating-add-self.ensures
-            (λ _. c.push-reserved.ensures.items) (c.args.binder ∷ [], c.push-reserved.ensures.items) e h,
+        binder_held base c.args.self.now _ m b c.args.binder refl refl refl refl c.saturating_add-self.ensures
+            (λ _. c.push_reserved.ensures.items) (c.args.binder ∷ [], c.push_reserved.ensures.items) e h,
       );
     }
 
@@ -24,7 +24,7 @@ returns-else-len-lt-MOST-BINDERS c base b e =
         _,
         refl,
         refl,
-        binder_held base c.args.self.now _ m b c.args.binder refl refl refl refl c.saturating-add-self.ensures
+        binder_held base c.args.self.now _ m b c.args.binder refl refl refl refl c.saturating_add-self.ensures
             (λ l. let long = c.args.self.now.binders.ok.0 in let n = c.len.ensures in absurd (omega arith)) (longer_same _ _ refl) e h,
       );
     }

@@ -22,5 +22,5 @@ returns c base x y z w s u v q =
     then _ (met _ _ (equal_is x s 0 c.if-a-ne0.false))
     (λ _ _. then _ (met _ _ (equal_is y u 0 c.if-b-ne0.false))
     (λ _ _. then _ (met _ _ (equal_is w q z.depth (c.if-d-c.false ∙ same_depth z v)))
-    (λ _ _. then _ (by_step (ap fresh (sym (same_depth z v))) (c.new-type-t.ensures base))
-    (λ t k. then _ (c.flow-into.ensures base z t v k) (λ _ _. then _ (c.flow-into-2.ensures base w t q k) (λ _ _. done k))))))
+    (λ _ _. then _ (by_step (ap fresh (sym (same_depth z v))) (c.new_type-t.ensures base))
+    (λ t k. then _ (c.flow_into.ensures base z t v k) (λ _ _. then _ (c.flow_into-2.ensures base w t q k) (λ _ _. done k))))))

@@ -10,6 +10,6 @@ returns-then-a-ge-DEEPEST c base x s = stop _ (unmet _ (below_not x s 3 c.if-a-g
 pub returns : goal.returns
 returns c base x s =
     then _ (met _ _ (below_is x s 3 c.if-a-ge-DEEPEST.false))
-    (λ _ _. then _ (by_step (ap (λ d. fresh (d + 1)) (sym (same_depth x s))) (c.new-type-t.ensures base))
-    (λ t u. then _ (c.add-operator.ensures base None None t.first refl refl (same_first t u))
-    (λ _ _. then _ (c.flow-into.ensures base x (from_1 t) s (c.below.ensures t u)) (λ _ _. done u))))
+    (λ _ _. then _ (by_step (ap (λ d. fresh (d + 1)) (sym (same_depth x s))) (c.new_type-t.ensures base))
+    (λ t u. then _ (c.add_operator.ensures base None None t.first refl refl (same_first t u))
+    (λ _ _. then _ (c.flow_into.ensures base x (from_1 t) s (c.below.ensures t u)) (λ _ _. done u))))

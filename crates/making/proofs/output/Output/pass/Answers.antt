@@ -12,7 +12,7 @@ loop-i-preserved c base o args ps s u rest =
     let in_ys : i < length ys = omega (arith, c.min-both.ensures) in
     c.loop-i.invariant base o args ps s u
     (by_step (passes_at args i ps (omega (arith, as_many xs args s)) (omega (arith, as_many_types ys ps u)))
-    (then _ (c.flow-into.ensures base (argument args i).levels (parameter ps i) (type_at xs args s i _ in-xs) (parameter_at ys ps u i _ in_ys)) (λ _ _. rest)))
+    (then _ (c.flow_into.ensures base (argument args i).levels (parameter ps i) (type_at xs args s i _ in-xs) (parameter_at ys ps u i _ in_ys)) (λ _ _. rest)))
 
 pub returns : goal.returns
 returns c base args ps s u =

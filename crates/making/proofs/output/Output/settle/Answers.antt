@@ -15,7 +15,7 @@ returns c =
     let of = c.in-Some.ensures in
     record {
       within = λ base m h w.
-          let cut-it = c.cut-back.ensures.earlier.1 (can_cut base o m h w to of.0 of.1 of.2) in
-          (cut-it, settled base o m h w to of.0 of.1 of.2 _ _ refl refl refl refl refl cut-it c.cut-back.ensures.after);
-      passed = λ base g no. not_cut base o _ refl _ _ no c.cut-back.ensures.after g;
+          let cut-it = c.cut_back.ensures.earlier.1 (can_cut base o m h w to of.0 of.1 of.2) in
+          (cut-it, settled base o m h w to of.0 of.1 of.2 _ _ refl refl refl refl refl cut-it c.cut_back.ensures.after);
+      passed = λ base g no. not_cut base o _ refl _ _ no c.cut_back.ensures.after g;
     }
