@@ -1,3 +1,4 @@
+#![tactic(auto)]
 // Flows between variables, and bounds on them, over any kind. A network holds both; a worklist finds the least values that meet
 // the flows, and explains which rises lead to a broken bound. Proved for every kind that keeps its laws: the values are the
 // least, a bound is broken just where nothing meets flows and bounds together, and the evaluations are bounded.

@@ -1,3 +1,4 @@
+#![tactic(auto)]
 // Examples of what networks and worklists do, through their public interface. The expected numbers are worked out by hand; in
 // the comments that say how, f2 is flow 2 and v2 is variable 2.
 #[cfg(test)]

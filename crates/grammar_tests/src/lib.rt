@@ -1,3 +1,4 @@
+#![tactic(auto)]
 // Examples of texts that are declarations, with their trees, and of texts that are refused by the grammar.
 #[cfg(test)]
 mod answers;

@@ -1,3 +1,4 @@
+#![tactic(auto)]
 // Reads texts from standard input, one a line, and writes for each `reads` where it is a declaration, and else the number and
 // the place of its refusal.
 use anyhow::Context;

@@ -1,3 +1,4 @@
+#![tactic(auto)]
 // A complaint in small. A lane is sized by a checked count; two names share one reference to its size; a number from a form is
 // stored through the one name and read through the other, where no entered number may stand. The flows are written by hand
 // and settled, step by step, over two kinds and over their pair.

@@ -1,4 +1,5 @@
-ghost use Rattle.kinds.specs.Origins.{origin};
+ghost use Rattle.std.specs.Prelude.{◌≡◌};
+ghost use Rattle.kinds.specs.Origins.{checked_by, origin};
 ghost use Rattle.std.proofs.Common.{rules};
 ghost use Rattle.kinds.specs.OriginLaws;
 
@@ -11,6 +12,19 @@ pub enum Origin {
     Constant,
     Checked,
     Entered,
+}
+
+// The first number checked against the second.
+fn checked_against(a: Origin, b: Origin) -> Origin
+    ensures { result ≡ checked_by a b }
+{
+    if !b.at_or_below(Origin::Checked) {
+        Origin::Entered
+    } else if a.at_or_below(Origin::Checked) {
+        a
+    } else {
+        Origin::Checked
+    }
 }
 
 impl Kind for Origin {
@@ -66,15 +80,7 @@ impl Kind for Origin {
             ARITH => a.join(b),
             FIELD => Origin::Entered,
             DETECTOR | CLOCK => Origin::Checked,
-            CHECK => {
-                if !b.at_or_below(Origin::Checked) {
-                    Origin::Entered
-                } else if a.at_or_below(Origin::Checked) {
-                    a
-                } else {
-                    Origin::Checked
-                }
-            }
+            CHECK => checked_against(a, b),
             _ => Origin::Constant,
         }
     }

@@ -1,3 +1,4 @@
+#![tactic(auto)]
 // Examples of what the kinds do, through their public interface, and a kind from outside: `Only`, the smallest lawful one.
 #[cfg(test)]
 mod bytes_tests;

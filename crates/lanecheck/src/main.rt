@@ -1,3 +1,4 @@
+#![tactic(auto)]
 // Reads a script from standard input, one declaration a line, and shows for each its tokens with their places, or the number
 // and the place of its refusal.
 use anyhow::anyhow;

@@ -1,3 +1,4 @@
+#![tactic(auto)]
 // What a declaration makes: appended to the network as far as it fits, and counted past every limit.
 pub mod adding;
 pub mod calling;

@@ -1,3 +1,4 @@
+#![tactic(auto)]
 // Examples of how texts are read as tokens, of the parts of a mark, and of the numbers and values of refusals.
 #[cfg(test)]
 mod bytes_tests;
