@@ -1,5 +1,5 @@
 ghost use Rattle.std.specs.Prelude.{◌≡◌, ℕ, ◌<◌, ◌≤◌, true, not, [], ◌++◌, length, if◌then◌else◌};
-ghost use Rattle.flows.specs.Flows.{held, operand, result, met, flow};
+ghost use Rattle.flows.specs.Flows.{held, operand, result as outcome, met, flow};
 ghost use Rattle.flows.specs.Limits.{most_flows};
 ghost use Rattle.flows.specs.Networks.{contents};
 ghost use Rattle.flows.specs.Pending.{pending};
@@ -13,7 +13,7 @@ use kinds::kind::Kind;
 
 // The value of a variable; an absent one, or one past the last, has bottom.
 fn source<K: Kind>(values: &[K], variable: Option<Variable>) -> K
-    ensures* { λ r. ⌜ r ≡ operand K.Kind (held K.Kind values.now) variable ⌝ }
+    ensures { result ≡ operand K.Kind (held K.Kind values.now) variable }
 {
     match variable {
         Some(v) => match values.get(v as usize) {
@@ -26,7 +26,7 @@ fn source<K: Kind>(values: &[K], variable: Option<Variable>) -> K
 
 // What a rule brings to its target.
 fn brought<K: Kind>(values: &[K], rule: Rule) -> K
-    ensures* { λ r. ⌜ r ≡ result K.Kind (held K.Kind values.now) rule ⌝ }
+    ensures { result ≡ outcome K.Kind (held K.Kind values.now) rule }
 {
     match rule {
         Rule::Operator(number, a, b) => K::operate(number, source(values, a), source(values, b)),
@@ -37,8 +37,8 @@ fn brought<K: Kind>(values: &[K], rule: Rule) -> K
 // Applies a flow that is not met, and answers whether it did.
 pub(super) fn raise<K: Kind>(values: &mut [K], flow: Flow) -> bool
     requires { flow.target < length values.old }
-    ensures* rose { λ r. ⌜ met K.Kind (held K.Kind values.old) flow ≡ not r ⌝ }
-    ensures* after { λ r. ⌜ values.new ≡ (if r then applied K.Kind flow values.old else values.old) ⌝ }
+    ensures rose { met K.Kind (held K.Kind values.old) flow ≡ not result }
+    ensures after { values.new ≡ (if result then applied K.Kind flow values.old else values.old) }
 {
     let new = brought(values, flow.rule);
     let target = flow.target as usize;
@@ -54,7 +54,7 @@ impl Network {
     // Appends every flow that reads a variable and does not wait, in ascending number.
     pub(super) fn wake(&self, queue: &mut Queue, variable: Variable)
         requires { variable < (contents self.now).variables }
-        ensures* { λ _. ⌜ pending queue.new ≡ pending queue.old ++ woken (contents self.now).flows variable (pending queue.old) (length (contents self.now).flows) ⌝ }
+        ensures { pending queue.new ≡ pending queue.old ++ woken (contents self.now).flows variable (pending queue.old) (length (contents self.now).flows) }
     {
         let variable = variable as usize;
         let mut node = self.readers.start(variable);
@@ -75,7 +75,7 @@ pub(super) fn evaluate<K: Kind>(
 ) -> bool
     requires number { number < length (contents network.now).flows }
     requires room { (contents network.now).variables ≤ length values.old }
-    ensures* { λ r. ⌜ Evaluates K.Kind (contents network.now).flows number values.old (pending queue.old) r values.new (pending queue.new) ⌝ }
+    ensures { Evaluates K.Kind (contents network.now).flows number values.old (pending queue.old) result values.new (pending queue.new) }
 {
     let flow = network.flow(number);
     let rose = raise(values, flow);
@@ -90,8 +90,8 @@ pub(super) fn run<K: Kind>(values: &mut [K], network: &Network, queue: &mut Queu
     requires room { (contents network.now).variables ≤ length values.old }
     requires known { (i : ℕ) → waits i (pending queue.old) ≡ true → i < length (contents network.now).flows }
     requires few { length (pending queue.old) ≤ most_flows }
-    ensures* ends { λ r. ⌜ Ends K.Kind (contents network.now).flows values.old (pending queue.old) r values.new ⌝ }
-    ensures* idle { λ _. ⌜ pending queue.new ≡ [] ⌝ }
+    ensures ends { Ends K.Kind (contents network.now).flows values.old (pending queue.old) result values.new }
+    ensures idle { pending queue.new ≡ [] }
 {
     let mut evaluations = 0;
     while let Some(number) = queue.pop() {

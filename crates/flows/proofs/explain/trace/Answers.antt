@@ -30,24 +30,24 @@ loop-number-init g c = (0, [], begins, c.requires.unbroken, refl, refl)
 pub evaluate-requires : goal.evaluate-requires
 evaluate-requires g c = record { number = taken g (goal.at.evaluate-requires g c).In-Some; room = omega (arith, c.requires.room) }
 
-pub overflow-cast-number : goal.overflow-cast-number
-overflow-cast-number g c = omega (arith, taken g (goal.at.overflow-cast-number g c).In-Some, few c.args.network.now)
+pub overflow_cast-number : goal.overflow_cast-number
+overflow_cast-number g c = omega (arith, taken g (goal.at.overflow_cast-number g c).In-Some, few c.args.network.now)
 
-pub overflow-add-rises : goal.overflow-add-rises
-overflow-add-rises g c =
-    omega (arith, c.loop-number.invariant.4, turn_rises_few g.K.Kind g.met.K.Kind.lawful _ _ _ (fits g (goal.at.overflow-add-rises g c).In-Some) g.met.K.Kind.limits.low (few c.args.network.now) c.requires.few _ _ _ _ c.loop-number.invariant.2)
+pub overflow_add-rises : goal.overflow_add-rises
+overflow_add-rises g c =
+    omega (arith, c.loop-number.invariant.4, turn_rises_few g.K.Kind g.met.K.Kind.lawful _ _ _ (fits g (goal.at.overflow_add-rises g c).In-Some) g.met.K.Kind.limits.low (few c.args.network.now) c.requires.few _ _ _ _ c.loop-number.invariant.2)
 
-pub loop-number-smaller-in-default-first_broken : goal.loop-number-smaller-in-default-first_broken
-loop-number-smaller-in-default-first_broken g c =
-    turn_falls g.K.Kind g.met.K.Kind.lawful _ _ _ (fits g (goal.at.loop-number-smaller-in-default-first_broken g c).In-Some) _ _ _ _ _ _ _ _ _ c.loop-number.invariant.2 c.in-Some.ensures c.evaluate.ensures
+pub loop-number-smaller-in_default-first_broken : goal.loop-number-smaller-in_default-first_broken
+loop-number-smaller-in_default-first_broken g c =
+    turn_falls g.K.Kind g.met.K.Kind.lawful _ _ _ (fits g (goal.at.loop-number-smaller-in_default-first_broken g c).In-Some) _ _ _ _ _ _ _ _ _ c.loop-number.invariant.2 c.in-Some.ensures c.evaluate.ensures
 
-pub loop-number-preserved-in-default-first_broken : goal.loop-number-preserved-in-default-first_broken
-loop-number-preserved-in-default-first_broken g c =
+pub loop-number-preserved-in_default-first_broken : goal.loop-number-preserved-in_default-first_broken
+loop-number-preserved-in_default-first_broken g c =
     let (n, risen, run, whole, counted, listed) = c.loop-number.invariant in (
       n + 1,
       risen ++ c.in-Some.number ∷ [],
-      turn g.K.Kind g.met.K.Kind.lawful _ _ _ (fits g (goal.at.loop-number-preserved-in-default-first_broken g c).In-Some) _ _ _ _ _ _ _ _ _ run c.in-Some.ensures c.if-evaluate.ensures,
-      c.in-default-first_broken.ensures.lowest,
+      turn g.K.Kind g.met.K.Kind.lawful _ _ _ (fits g (goal.at.loop-number-preserved-in_default-first_broken g c).In-Some) _ _ _ _ _ _ _ _ _ run c.in-Some.ensures c.if-evaluate.ensures,
+      c.in_default-first_broken.ensures.lowest,
       omega (arith, counted, length_push risen c.in-Some.number),
       noted _ _ _ _ _ _ counted listed c.note.ensures,
     )

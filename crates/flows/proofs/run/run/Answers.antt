@@ -19,9 +19,9 @@ evaluate-requires g c =
     let taken = turn_first g.K.Kind g.met.K.Kind.lawful _ _ _ (fits g (goal.at.evaluate-requires g c).In-Some) _ _ _ _ _ _ c.loop-number.invariant.1 c.in-Some.ensures in
     record { number = taken.0; room = omega (arith, c.requires.room) }
 
-pub overflow-add-evaluations : goal.overflow-add-evaluations
-overflow-add-evaluations g c =
-    omega (arith, turn_few g.K.Kind g.met.K.Kind.lawful _ _ _ (fits g (goal.at.overflow-add-evaluations g c).In-Some) g.met.K.Kind.limits.low (few c.args.network.now) c.requires.few _ _ _ _ c.loop-number.invariant.1)
+pub overflow_add-evaluations : goal.overflow_add-evaluations
+overflow_add-evaluations g c =
+    omega (arith, turn_few g.K.Kind g.met.K.Kind.lawful _ _ _ (fits g (goal.at.overflow_add-evaluations g c).In-Some) g.met.K.Kind.limits.low (few c.args.network.now) c.requires.few _ _ _ _ c.loop-number.invariant.1)
 
 pub loop-number-smaller : goal.loop-number-smaller
 loop-number-smaller g c =
@@ -35,5 +35,5 @@ loop-number-preserved g c = (
 
 pub returns : goal.returns
 returns g c =
-    let (none, left) = c.in-default.ensures in
+    let (none, left) = c.in_default.ensures in
     record { ends = (_, renamed g.K.Kind _ _ _ _ _ _ _ _ c.loop-number.invariant.1 none); idle = left }

@@ -7,15 +7,15 @@ use Rattle.grammar.proofs.expression.+app_args_assignment_atom_block_bracket_cal
 
 pub args-returns-in-Ok-more : goal.args-returns-in-Ok-more
 args-returns-in-Ok-more t c =
-    args_more c.args.reader.end c.args.depth (seen c.args.ts) (c.in-ok-e.e, c.in-ok-e.rest) c.in-Some.rest (c.in-Ok.args, c.in-Ok.rest) c.in-Ok-more.args
-    c.in-ok-e.ensures c.in-Some.ensures c.in-Ok.ensures c.in-Ok-more.ensures
+    args_more c.args.reader.end c.args.depth (seen c.args.ts) (c.in_ok-e.e, c.in_ok-e.rest) c.in-Some.rest (c.in-Ok.args, c.in-Ok.rest) c.in-Ok-more.args
+    c.in_ok-e.ensures c.in-Some.ensures c.in-Ok.ensures c.in-Ok-more.ensures
 
 pub conditional-returns-in-Ok : goal.conditional-returns-in-Ok
 conditional-returns-in-Ok t c =
     if_reads c.args.reader.end c.args.depth c.in-Some.inner c.args.place c.in-Some.ensures (seen c.args.ts)
-    (c.in-ok-a.a, c.in-ok-a.rest) (c.in-ok-b.b, c.in-ok-b.rest) (c.in-ok-c.c, c.in-ok-c.rest) (c.in-ok-d.d, c.in-ok-d.rest)
-    (seen c.in-ok-rest.rest) (seen c.in-ok-rest-2.rest) (seen c.in-ok-rest-3.rest)
-    c.in-ok-a.ensures c.in-ok-rest.ensures c.in-ok-b.ensures c.in-ok-rest-2.ensures c.in-ok-c.ensures c.in-ok-rest-3.ensures c.in-ok-d.ensures
+    (c.in_ok-a.a, c.in_ok-a.rest) (c.in_ok-b.b, c.in_ok-b.rest) (c.in_ok-c.c, c.in_ok-c.rest) (c.in_ok-d.d, c.in_ok-d.rest)
+    (seen c.in_ok-rest.rest) (seen c.in_ok-rest-2.rest) (seen c.in_ok-rest-3.rest)
+    c.in_ok-a.ensures c.in_ok-rest.ensures c.in_ok-b.ensures c.in_ok-rest-2.ensures c.in_ok-c.ensures c.in_ok-rest-3.ensures c.in_ok-d.ensures
     c.in-Ok.e c.in-Ok.ensures
 
 pub sum-returns-in-Ok : goal.sum-returns-in-Ok
@@ -36,12 +36,12 @@ term-returns-in-Err t c =
 
 pub vals-returns-in-Ok-bound_more : goal.vals-returns-in-Ok-bound_more
 vals-returns-in-Ok-bound_more t c =
-    let head = c.in-ok-name in
-    vals_more c.args.reader.end c.args.depth (seen c.args.ts) (head.name, head.mark, head.rest) (c.in-ok-e.e, c.in-ok-e.rest) c.in-Some.rest (c.in-Ok.vals, c.in-Ok.rest) c.in-Ok-bound_more.vals
-    head.ensures c.in-ok-e.ensures c.in-Some.ensures c.in-Ok.ensures c.in-Ok-bound_more.ensures
+    let head = c.in_ok-name in
+    vals_more c.args.reader.end c.args.depth (seen c.args.ts) (head.name, head.mark, head.rest) (c.in_ok-e.e, c.in_ok-e.rest) c.in-Some.rest (c.in-Ok.vals, c.in-Ok.rest) c.in-Ok-bound_more.vals
+    head.ensures c.in_ok-e.ensures c.in-Some.ensures c.in-Ok.ensures c.in-Ok-bound_more.ensures
 
 pub vals-returns-in-Ok-bound_last : goal.vals-returns-in-Ok-bound_last
 vals-returns-in-Ok-bound_last t c =
-    let head = c.in-ok-name in
-    vals_last c.args.reader.end c.args.depth (seen c.args.ts) (head.name, head.mark, head.rest) (c.in-ok-e.e, c.in-ok-e.rest) c.in-Ok-bound_last.vals
-    head.ensures c.in-ok-e.ensures c.in-None.ensures c.in-Ok-bound_last.ensures
+    let head = c.in_ok-name in
+    vals_last c.args.reader.end c.args.depth (seen c.args.ts) (head.name, head.mark, head.rest) (c.in_ok-e.e, c.in_ok-e.rest) c.in-Ok-bound_last.vals
+    head.ensures c.in_ok-e.ensures c.in-None.ensures c.in-Ok-bound_last.ensures

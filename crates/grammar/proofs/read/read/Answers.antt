@@ -6,12 +6,12 @@ use Rattle.pieces.specs.Seen.{seen}
 use Rattle.grammar.proofs.Whole.{some_reading, only_reading, lex_refused, text_read}
 use Rattle.grammar.proofs.read.read.Goals as goal
 
-pub returns-in-err-tokens : goal.returns-in-err-tokens
-returns-in-err-tokens c =
+pub returns-in_err-tokens : goal.returns-in_err-tokens
+returns-in_err-tokens c =
     let text = c.args.text.now in
     let p = err_from_is_err_and c.from-residual.result c.from-residual.ensures.1 in
     record {
-      answer = rw (p.1, p.2) (lex_refused (length text) (lexed text) c.in-err-tokens.field-0.0 c.in-err-tokens.ensures.answer);
+      answer = rw (p.1, p.2) (lex_refused (length text) (lexed text) c.in_err-tokens.field-0.0 c.in_err-tokens.ensures.answer);
       some = some_reading (length text) (lexed text);
       only = only_reading (length text) (lexed text);
     }
@@ -20,7 +20,7 @@ pub returns : goal.returns
 returns c =
     let text = c.args.text.now in
     record {
-      answer = text_read (length text) (seen c.as_slice.result) (lexed text) c.parse.result (c.in-ok-tokens.ensures.answer ∙ ap (λ l. read (map placed l)) (sym c.as_slice.ensures.value)) c.parse.ensures.answer;
+      answer = text_read (length text) (seen c.as_slice.result) (lexed text) c.parse.result (c.in_ok-tokens.ensures.answer ∙ ap (λ l. read (map placed l)) (sym c.as_slice.ensures.value)) c.parse.ensures.answer;
       some = some_reading (length text) (lexed text);
       only = only_reading (length text) (lexed text);
     }

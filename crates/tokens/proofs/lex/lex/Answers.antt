@@ -18,31 +18,31 @@ pub loop-place-preserved-then-is_blank : goal.loop-place-preserved-then-is_blank
 loop-place-preserved-then-is_blank c =
     turn_blank c.args.text.now _ c.loop-place.place c.loop-place.invariant c.loop-place-test.true (sym c.if-is_blank.ensures)
 
-pub returns-in-default : goal.returns-in-default
-returns-in-default c =
-    let told = computed c.args.text.now _ (omega arith) (turn_stop c.args.text.now _ c.loop-place.place c.loop-place.invariant c.loop-place-test.true (sym c.if-is_blank.ensures) (ap token_at (sym (take_rest c.args.text.now c.loop-place.place)) ∙ sym c.in-default.ensures)) in
+pub returns-in_default : goal.returns-in_default
+returns-in_default c =
+    let told = computed c.args.text.now _ (omega arith) (turn_stop c.args.text.now _ c.loop-place.place c.loop-place.invariant c.loop-place-test.true (sym c.if-is_blank.ensures) (ap token_at (sym (take_rest c.args.text.now c.loop-place.place)) ∙ sym c.in_default.ensures)) in
     record { answer = inr (ap refusal_of told); law = lexed_lawful c.args.text.now; only = lexed_only c.args.text.now }
 
-pub returns-in-err-push : goal.returns-in-err-push
-returns-in-err-push c =
+pub returns-in_err-push : goal.returns-in_err-push
+returns-in_err-push c =
     let p = err_from_is_err_and c.from-residual.result c.from-residual.ensures.1 in rw (p.1, p.2) (record { answer = inl refl; law = lexed_lawful c.args.text.now; only = lexed_only c.args.text.now })
 
 -- what was found
-found : (c : goal.In-ok-push) → token_at (drop c.loop-place.place c.args.text.now) ≡ Some (record { size = c.in-Some.found.len; tok = meaning c.in-Some.found.kind })
+found : (c : goal.In_ok-push) → token_at (drop c.loop-place.place c.args.text.now) ≡ Some (record { size = c.in-Some.found.len; tok = meaning c.in-Some.found.kind })
 found c = ap token_at (sym (take_rest c.args.text.now c.loop-place.place)) ∙ sym c.in-Some.ensures
 
-within : (c : goal.In-ok-push) → (1 ≤ c.in-Some.found.len) × (c.loop-place.place + c.in-Some.found.len ≤ length c.args.text.now)
+within : (c : goal.In_ok-push) → (1 ≤ c.in-Some.found.len) × (c.loop-place.place + c.in-Some.found.len ≤ length c.args.text.now)
 within c = turn_within c.args.text.now _ c.loop-place.place c.loop-place.invariant _ (found c)
 
-pub overflow-add-place-else-is_blank : goal.overflow-add-place-else-is_blank
-overflow-add-place-else-is_blank c = let h = within c in search rules
+pub overflow_add-place-else-is_blank : goal.overflow_add-place-else-is_blank
+overflow_add-place-else-is_blank c = let h = within c in search rules
 
 pub loop-place-smaller : goal.loop-place-smaller
 loop-place-smaller c = omega (arith, (within c).0, (within c).1)
 
 pub loop-place-preserved : goal.loop-place-preserved
 loop-place-preserved c =
-    subst (λ ts. Sofar c.args.text.now ts (c.loop-place.place + c.in-Some.found.len)) (sym (ap (map placed) c.in-ok-push.ensures.items ∙ map_push placed (vec_items c.loop-place.tokens) _))
+    subst (λ ts. Sofar c.args.text.now ts (c.loop-place.place + c.in-Some.found.len)) (sym (ap (map placed) c.in_ok-push.ensures.items ∙ map_push placed (vec_items c.loop-place.tokens) _))
     (turn_token c.args.text.now _ c.loop-place.place c.loop-place.invariant _ (found c))
 
 pub returns : goal.returns

@@ -3,8 +3,8 @@ use Rattle.flows.specs.Bounds.{bound}
 use Rattle.flows.proofs.Built.{bounded_push, is_bounded}
 use Rattle.flows.proofs.network.Network.add_bound.Goals as goal
 
-pub invariant-of-self-2 : goal.invariant-of-self-2
-invariant-of-self-2 c =
+pub invariant_of-self-2 : goal.invariant_of-self-2
+invariant_of-self-2 c =
     let n = c.args.self.now in
     let vars = n.counts.variables in
     let pushed = c.push_reserved.ensures in

@@ -4,8 +4,8 @@ use Rattle.flows.specs.Reading.{Indexes}
 use Rattle.flows.proofs.Built.{closed_push, is_closed, indexes}
 use Rattle.flows.proofs.network.Network.add_flow.Goals as goal
 
-pub invariant-of-self-2 : goal.invariant-of-self-2
-invariant-of-self-2 c =
+pub invariant_of-self-2 : goal.invariant_of-self-2
+invariant_of-self-2 c =
     let n = c.args.self.now in
     let vars = n.counts.variables in
     let pushed = c.push_reserved.ensures in

@@ -3,7 +3,7 @@ use Rattle.flows.specs.Flows.{flow}
 use Rattle.flows.proofs.Built.{inside_more}
 use Rattle.flows.proofs.network.Network.add_variable.Goals as goal
 
-pub invariant-of-self-2 : goal.invariant-of-self-2
-invariant-of-self-2 c =
+pub invariant_of-self-2 : goal.invariant_of-self-2
+invariant_of-self-2 c =
     let n = c.args.self.now in
     (n.flow_count, (n.bound_count, (n.flow_room, (n.bound_room, (λ i h. inside_more n.counts.variables (n.counts.variables + 1) (omega arith) (flow (vec_items n.flows) i) (n.closed i h), (λ i h. omega (arith, n.bounded i h), (n.indexed, (n.first, (n.second, tt)))))))))

@@ -6,8 +6,8 @@ use Rattle.flows.specs.Reading.{Indexes}
 use Rattle.flows.proofs.Built.{indexes}
 use Rattle.flows.proofs.network.Network.cut_back.Goals as goal
 
-pub invariant-of-self : goal.invariant-of-self
-invariant-of-self c =
+pub invariant_of-self : goal.invariant_of-self
+invariant_of-self c =
     let n = c.args.self.now in
     let to = c.args.to in
     let flows = c.truncate.new.self in

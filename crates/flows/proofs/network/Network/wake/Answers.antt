@@ -25,4 +25,4 @@ returns c =
     let n = c.args.self.now in
     let (at, queued) = c.loop-slot.invariant in
     let q = pending c.args.queue.now in
-    queued ∙ ap (fold joined q) c.in-default.ensures ∙ woken_all n.readers (vec_items n.flows) c.args.variable q (indexes n) (omega (arith, c.requires, n.counts.few_variables))
+    queued ∙ ap (fold joined q) c.in_default.ensures ∙ woken_all n.readers (vec_items n.flows) c.args.variable q (indexes n) (omega (arith, c.requires, n.counts.few_variables))

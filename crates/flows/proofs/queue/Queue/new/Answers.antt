@@ -4,18 +4,18 @@ use Rattle.flows.specs.Limits.{most_flows}
 use Rattle.flows.proofs.Rings.{replicate_none, replicate_count}
 use Rattle.flows.proofs.queue.Queue.new.Goals as goal
 
-pub invariant-of-result : goal.invariant-of-result
-invariant-of-result c =
-    let flags = c.in-ok-vec-2.ensures.items-if-clones-equal (λ y e. e) in (
+pub invariant_of-result : goal.invariant_of-result
+invariant_of-result c =
+    let flags = c.in_ok-vec-2.ensures.items-if-clones-equal (λ y e. e) in (
       λ i. ap (λ w. get_or w i false) flags ∙ replicate_none most_flows i,
       (
         refl,
         (
           sym (replicate_count most_flows) ∙ ap (count_by (λ b. b)) (sym flags),
-          (c.in-ok-vec.ensures.len, (c.in-ok-vec-2.ensures.len, (lit< tt, tt))),
+          (c.in_ok-vec.ensures.len, (c.in_ok-vec-2.ensures.len, (lit< tt, tt))),
         ),
       ),
     )
 
-pub returns-in-err-vec-2 : goal.returns-in-err-vec-2
-returns-in-err-vec-2 c = IfOk-from_err _ _ c.from-residual-in-err-vec-2.ensures.0
+pub returns-in_err-vec-2 : goal.returns-in_err-vec-2
+returns-in_err-vec-2 c = IfOk-from_err _ _ c.from-residual-in_err-vec-2.ensures.0

@@ -12,17 +12,17 @@ free c = flag_read c.args.self.now c.args.number _ c.requires c.index.ensures �
 leaves : (c : After-entry_at-at) → Pushed c.args.self.now c.args.number c.entry_at-at.result
 leaves c = pushed c.args.self.now c.args.number _ c.requires (free c) c.entry_at-at.ensures
 
-pub index-mut-requires : goal.index-mut-requires
-index-mut-requires c =
+pub index_mut-requires : goal.index_mut-requires
+index_mut-requires c =
     let q = c.args.self.now in
-    subst (λ n. c.entry_at-at.result < n) (sym q.placed) (leaves (goal.at.index-mut-requires c).After-entry_at-at).inside
+    subst (λ n. c.entry_at-at.result < n) (sym q.placed) (leaves (goal.at.index_mut-requires c).After-entry_at-at).inside
 
-pub overflow-add-self : goal.overflow-add-self
-overflow-add-self c = omega (arith, (leaves (goal.at.overflow-add-self c).After-entry_at-at).room)
+pub overflow_add-self : goal.overflow_add-self
+overflow_add-self c = omega (arith, (leaves (goal.at.overflow_add-self c).After-entry_at-at).room)
 
-pub invariant-of-self : goal.invariant-of-self
-invariant-of-self c =
-    let kept = (leaves (goal.at.invariant-of-self c).After-entry_at-at).kept in
+pub invariant_of-self : goal.invariant_of-self
+invariant_of-self c =
+    let kept = (leaves (goal.at.invariant_of-self c).After-entry_at-at).kept in
     let q = c.args.self.now in
     (kept.flags, (kept.once, (kept.counted, (q.placed, (q.flagged, (q.started, tt))))))
 

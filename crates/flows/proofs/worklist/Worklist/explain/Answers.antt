@@ -43,7 +43,7 @@ trace-explanation-requires g c =
       room = omega (arith, c.requires, ap length c.reset.ensures);
       known = λ i w. (from_bottom g.K.Kind flows _ (targets n _ c.requires)).known i (sym (ap (waits i) queue) ∙ w);
       few = omega (arith, few n, ap length queue, numbered_length 0 (length flows));
-      unbroken = c.in-default.ensures.lowest;
+      unbroken = c.in_default.ensures.lowest;
     }
 
 pub returns : goal.returns

@@ -2,9 +2,9 @@ use Rattle.std.proofs.Common.{refl, arith}
 use Rattle.making.proofs.Cutting.{can_cut, settled, not_cut}
 use Rattle.making.proofs.output.Output.settle.Goals as goal
 
-pub returns-in-default : goal.returns-in-default
-returns-in-default c = record {
-  within = λ base m h w. absurd (c.in-default.ensures (let k = h.variables in let l = w.next in omega arith) (let k = h.flows in let l = w.flows in omega arith) (let k = h.bounds in let l = w.bounds in omega arith));
+pub returns-in_default : goal.returns-in_default
+returns-in_default c = record {
+  within = λ base m h w. absurd (c.in_default.ensures (let k = h.variables in let l = w.next in omega arith) (let k = h.flows in let l = w.flows in omega arith) (let k = h.bounds in let l = w.bounds in omega arith));
   passed = λ base g _. g;
 }
 

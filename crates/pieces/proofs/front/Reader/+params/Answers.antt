@@ -6,5 +6,5 @@ use Rattle.pieces.proofs.front.Reader.+params.Goals as goal
 
 pub returns-then-room-eq0 : goal.returns-then-room-eq0
 returns-then-room-eq0 t c =
-    params_last c.args.self.end c.args.room (seen c.args.ts) (c.in-ok-x.x, c.in-ok-x.rest) c.in-ok-x.ensures
-    (λ S. no_pars c.args.self.end c.args.room (omega arith) S (seen c.in-ok-x.rest))
+    params_last c.args.self.end c.args.room (seen c.args.ts) (c.in_ok-x.x, c.in_ok-x.rest) c.in_ok-x.ensures
+    (λ S. no_pars c.args.self.end c.args.room (omega arith) S (seen c.in_ok-x.rest))

@@ -4,4 +4,4 @@ use Rattle.pieces.proofs.front.Reader.closed.Goals as goal
 
 pub returns : goal.returns
 returns c =
-    closes c.args.self.end c.args.depth (seen c.args.ts) (seen c.in-ok-rest.rest) c.args.e c.bounds.result c.in-ok-rest.ensures c.bounds.ensures
+    closes c.args.self.end c.args.depth (seen c.args.ts) (seen c.in_ok-rest.rest) c.args.e c.bounds.result c.in_ok-rest.ensures c.bounds.ensures

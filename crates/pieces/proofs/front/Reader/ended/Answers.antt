@@ -4,4 +4,4 @@ use Rattle.pieces.proofs.front.Reader.ended.Goals as goal
 
 pub returns : goal.returns
 returns c =
-    ends c.args.self.end c.args.depth c.args.place (seen c.args.ts) (seen c.in-ok-rest.rest) c.args.vals c.args.e c.in-ok-e.e c.bounds.result c.in-ok-rest.ensures c.in-ok-e.ensures c.bounds.ensures
+    ends c.args.self.end c.args.depth c.args.place (seen c.args.ts) (seen c.in_ok-rest.rest) c.args.vals c.args.e c.in_ok-e.e c.bounds.result c.in_ok-rest.ensures c.in_ok-e.ensures c.bounds.ensures
