@@ -5,7 +5,7 @@ use Rattle.grammar.proofs.declaration.fun.Goals as goal
 
 pub returns-in_err-rest-3 : goal.returns-in_err-rest-3
 returns-in_err-rest-3 c =
-    let p = err_from_is_err_and c.from-residual-in_err-rest-3.result c.from-residual-in_err-rest-3.ensures.1 in
+    let p = err_from_is_err_and c.from_residual-in_err-rest-3.result c.from_residual-in_err-rest-3.ensures.1 in
     rw (p.1, p.2)
     (fun_stops c.args.reader.end c.args.place (seen c.args.ts)
     (c.in_ok-name.name, c.in_ok-name.rest) (seen c.in_ok-rest.rest) (seen c.in_ok-rest-2.rest)

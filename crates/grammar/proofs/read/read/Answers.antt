@@ -9,7 +9,7 @@ use Rattle.grammar.proofs.read.read.Goals as goal
 pub returns-in_err-tokens : goal.returns-in_err-tokens
 returns-in_err-tokens c =
     let text = c.args.text.now in
-    let p = err_from_is_err_and c.from-residual.result c.from-residual.ensures.1 in
+    let p = err_from_is_err_and c.from_residual.result c.from_residual.ensures.1 in
     record {
       answer = rw (p.1, p.2) (lex_refused (length text) (lexed text) c.in_err-tokens.field-0.0 c.in_err-tokens.ensures.answer);
       some = some_reading (length text) (lexed text);

@@ -25,7 +25,7 @@ returns-in_default c =
 
 pub returns-in_err-push : goal.returns-in_err-push
 returns-in_err-push c =
-    let p = err_from_is_err_and c.from-residual.result c.from-residual.ensures.1 in rw (p.1, p.2) (record { answer = inl refl; law = lexed_lawful c.args.text.now; only = lexed_only c.args.text.now })
+    let p = err_from_is_err_and c.from_residual.result c.from_residual.ensures.1 in rw (p.1, p.2) (record { answer = inl refl; law = lexed_lawful c.args.text.now; only = lexed_only c.args.text.now })
 
 -- what was found
 found : (c : goal.In_ok-push) → token_at (drop c.loop-place.place c.args.text.now) ≡ Some (record { size = c.in-Some.found.len; tok = meaning c.in-Some.found.kind })

@@ -15,7 +15,14 @@ pub invariant_of-self : goal.invariant_of-self
 invariant_of-self c =
     let kept = (leaves c).kept in
     let q = c.args.self.now in
-    (kept.flags, (kept.once, (kept.counted, (q.placed, (q.flagged, ((leaves c).starts, tt))))))
+    record {
+      flags = kept.flags;
+      once = kept.once;
+      counted = kept.counted;
+      placed = q.placed;
+      flagged = q.flagged;
+      started = (leaves c).starts;
+    }
 
 pub returns : goal.returns
 returns c = (leaves (goal.at.returns c).After-entry_at-self).items

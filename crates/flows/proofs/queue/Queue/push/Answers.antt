@@ -24,7 +24,14 @@ pub invariant_of-self : goal.invariant_of-self
 invariant_of-self c =
     let kept = (leaves (goal.at.invariant_of-self c).After-entry_at-at).kept in
     let q = c.args.self.now in
-    (kept.flags, (kept.once, (kept.counted, (q.placed, (q.flagged, (q.started, tt))))))
+    record {
+      flags = kept.flags;
+      once = kept.once;
+      counted = kept.counted;
+      placed = q.placed;
+      flagged = q.flagged;
+      started = q.started;
+    }
 
 pub returns-then-not-index : goal.returns-then-not-index
 returns-then-not-index c =

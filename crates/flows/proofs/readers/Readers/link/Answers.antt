@@ -16,4 +16,14 @@ pub invariant_of-self : goal.invariant_of-self
 invariant_of-self c =
     let r = c.args.self.now in
     let l = linked_more (linked r) r.fits c.args.variable _ c.requires.known c.requires.open (was (goal.at.invariant_of-self c).After-index-before) (sym r.variable.ok.0 ∙ r.slotted) (sym r.previous.ok.0 ∙ r.sized) (sym r.next.ok.0 ∙ r.noded) (sym r.last.ok.0 ∙ r.ended) in
-    (l.ends, (l.known, (l.back, (l.forth, (omega (arith, c.requires.open), (r.slotted, (r.sized, (r.noded, (r.ended, tt)))))))))
+    record {
+      ends = l.ends;
+      known = l.known;
+      back = l.back;
+      forth = l.forth;
+      fits = omega (arith, c.requires.open);
+      slotted = r.slotted;
+      sized = r.sized;
+      noded = r.noded;
+      ended = r.ended;
+    }

@@ -13,4 +13,14 @@ pub invariant_of-self : goal.invariant_of-self
 invariant_of-self c =
     let r = c.args.self.now in
     let l = taken_back r c.requires _ _ c.index-variable.ensures c.index.ensures in
-    (l.ends, (l.known, (l.back, (l.forth, (omega (arith, r.fits), (r.slotted, (r.sized, (r.noded, (r.ended, tt)))))))))
+    record {
+      ends = l.ends;
+      known = l.known;
+      back = l.back;
+      forth = l.forth;
+      fits = omega (arith, r.fits);
+      slotted = r.slotted;
+      sized = r.sized;
+      noded = r.noded;
+      ended = r.ended;
+    }

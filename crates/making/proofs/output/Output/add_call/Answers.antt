@@ -11,7 +11,7 @@ returns-then-operands-parameters c base f args ps t at s u v =
 pub returns-in_err-all_fit : goal.returns-in_err-all_fit
 returns-in_err-all_fit c base f args ps t at s u v =
     then _ (met _ _ (eq-eqb _ _ (sym (as_many c.args.operands.now args s) ∙ (c.if-operands-parameters.false ∙ as_many_types c.args.parameters.now ps u))))
-    (λ _ _. broke _ c.from-residual.ensures.1 (c.in_err-all_fit.ensures base c.args.self.now args ps s u))
+    (λ _ _. broke _ c.from_residual.ensures.1 (c.in_err-all_fit.ensures base c.args.self.now args ps s u))
 
 pub returns : goal.returns
 returns c base f args ps t at s u v =

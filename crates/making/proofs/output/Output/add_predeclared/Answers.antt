@@ -13,7 +13,7 @@ returns-then-operands-count c base f args at s =
 pub returns-in_err-all_ints : goal.returns-in_err-all_ints
 returns-in_err-all_ints c base f args at s =
     then _ (met _ _ (eq-eqb _ _ (sym (as_many c.args.operands.now args s) ∙ c.if-operands-count.false)))
-    (λ _ _. broke _ c.from-residual.ensures.1 (c.in_err-all_ints.ensures base c.args.self.now args s))
+    (λ _ _. broke _ c.from_residual.ensures.1 (c.in_err-all_ints.ensures base c.args.self.now args s))
 
 pub returns : goal.returns
 returns c base f args at s =
