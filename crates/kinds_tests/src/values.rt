@@ -1,4 +1,5 @@
 // Values made and compared through the interface of a kind alone.
+use kinds::bytes::same_bytes;
 use kinds::kind::{Kind, NameNumber};
 use kinds::origin::Origin;
 use kinds::pair::Pair;
@@ -16,7 +17,7 @@ pub fn has_name<K: Kind>(value: K, number: NameNumber) -> bool {
 }
 
 pub fn check_spelling<K: Kind>(rt: &impl Abort, number: NameNumber, text: &[u8]) {
-    assert_eq!(rt; K::spelling(number), text);
+    assert!(rt; same_bytes(K::spelling(number), text));
 }
 
 // The value of this rank, from 0 to 2.
