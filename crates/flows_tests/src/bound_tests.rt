@@ -10,11 +10,11 @@ use std::test::*;
 fn an_old_flow_breaks_a_bound_after_a_new_one(rt: HostRuntime) -> Result<(), Fail> {
     let mut trial = Trial::<Origin>::new(rt.alloc(), 2)?;
     trial.add_bound(ENTERED, 1)?;
-    trial.check_step(&[moved(0, 1)], 1)?;
+    trial.check_step(&rt, &[moved(0, 1)], 1)?;
     assert_eq!(rt; trial.first_broken(), None);
-    trial.check_step(&[made(DETECTOR, 0)], 2)?;
+    trial.check_step(&rt, &[made(DETECTOR, 0)], 2)?;
     assert_eq!(rt; trial.first_broken(), None);
-    trial.check_step(&[made(FIELD, 0)], 2)?;
+    trial.check_step(&rt, &[made(FIELD, 0)], 2)?;
     assert_eq!(rt; trial.first_broken(), Some(0));
     Ok(())
 }
@@ -27,9 +27,9 @@ fn of_two_broken_bounds_the_lowest_is_found(rt: HostRuntime) -> Result<(), Fail>
     trial.add_bound(CHECKED, 2)?;
     trial.add_bound(ENTERED, 1)?;
     trial.add_bound(CHECKED, 1)?;
-    trial.check_step(&[moved(0, 1)], 1)?;
+    trial.check_step(&rt, &[moved(0, 1)], 1)?;
     assert_eq!(rt; trial.first_broken(), None);
-    trial.check_step(&[made(FIELD, 0)], 2)?;
+    trial.check_step(&rt, &[made(FIELD, 0)], 2)?;
     assert_eq!(rt; trial.first_broken(), Some(1));
     Ok(())
 }

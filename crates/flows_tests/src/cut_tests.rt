@@ -11,7 +11,7 @@ use std::test::*;
 fn base(rt: &impl Abort, heap: Global) -> Result<Trial<Origin>, Fail> {
     let mut trial = Trial::new(heap, 2)?;
     trial.add_bound(ENTERED, 1)?;
-    trial.check_step(&[moved(0, 1), made(DETECTOR, 0)], 3)?;
+    trial.check_step(rt, &[moved(0, 1), made(DETECTOR, 0)], 3)?;
     assert_eq!(rt; trial.first_broken(), None);
     Ok(trial)
 }
@@ -21,7 +21,7 @@ fn base(rt: &impl Abort, heap: Global) -> Result<Trial<Origin>, Fail> {
 fn add_bad_step(rt: &impl Abort, trial: &mut Trial<Origin>) -> Result<(), Fail> {
     trial.add_variable()?;
     trial.add_bound(CHECKED, 2)?;
-    trial.check_step(&[from_two(ARITH, 0, 1, 2), made(FIELD, 0)], 4)?;
+    trial.check_step(rt, &[from_two(ARITH, 0, 1, 2), made(FIELD, 0)], 4)?;
     check_counts(rt, trial.network.counts(), (3, 4, 2))?;
     assert_eq!(rt; trial.first_broken(), Some(0));
     Ok(())
@@ -34,10 +34,10 @@ fn go_on(rt: &impl Abort, trial: &mut Trial<Origin>) -> Result<(), Fail> {
     trial.add_bound(CHECKED, 0)?;
     trial.add_flows(&[made(DETECTOR, 2), moved(1, 2)])?;
     assert_eq!(rt; trial.settle_anew()?, 6);
-    trial.check_values(&[Origin::value(CHECKED); 3])?;
+    trial.check_values(rt, &[Origin::value(CHECKED); 3])?;
     assert_eq!(rt; trial.first_broken(), Some(1));
-    trial.check_step(&[made(FIELD, 0)], 3)?;
-    trial.check_values(&[Origin::value(ENTERED); 3])?;
+    trial.check_step(rt, &[made(FIELD, 0)], 3)?;
+    trial.check_values(rt, &[Origin::value(ENTERED); 3])?;
     assert_eq!(rt; trial.first_broken(), Some(0));
     check_counts(rt, trial.network.counts(), (3, 5, 2))
 }
@@ -46,7 +46,7 @@ fn go_on(rt: &impl Abort, trial: &mut Trial<Origin>) -> Result<(), Fail> {
 fn after_a_cut_all_goes_on_as_if_never_added(rt: HostRuntime) -> Result<(), Fail> {
     let mut never = base(&rt, rt.alloc())?;
     never.add_variable()?;
-    go_on(&rt, &mut never).note("never added")?;
+    go_on(&rt, &mut never)?;
 
     let mut trial = base(&rt, rt.alloc())?;
     let before = trial.network.counts();
@@ -54,7 +54,7 @@ fn after_a_cut_all_goes_on_as_if_never_added(rt: HostRuntime) -> Result<(), Fail
     assert!(rt; trial.network.cut_back(before));
     check_counts(&rt, trial.network.counts(), (2, 2, 1))?;
     assert_eq!(rt; trial.network.add_variable(), Some(2));
-    go_on(&rt, &mut trial).note("added and cut")
+    go_on(&rt, &mut trial)
 }
 
 // Each has one count too many, or lacks v1: it is the target of f0, and the bound stands on it.
@@ -71,5 +71,5 @@ fn a_cut_to_no_earlier_counts_changes_nothing(rt: HostRuntime) -> Result<(), Fai
         check_counts(&rt, trial.network.counts(), (2, 2, 1))?;
     }
     assert_eq!(rt; trial.settle_anew()?, 3);
-    trial.check_values(&[Origin::value(CHECKED); 2])
+    trial.check_values(&rt, &[Origin::value(CHECKED); 2])
 }

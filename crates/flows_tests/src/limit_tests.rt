@@ -42,7 +42,7 @@ fn only_2048_flows_go_and_they_settle(rt: HostRuntime) -> Result<(), Fail> {
     assert_eq!(rt; trial.network.add_flow(moved(0, 0)), None);
     check_counts(&rt, trial.network.counts(), (1, 2048, 0))?;
     assert_eq!(rt; trial.settle(0)?, 4095);
-    trial.check_value(0, Origin::value(ENTERED))
+    trial.check_value(&rt, 0, Origin::value(ENTERED))
 }
 
 #[test]

@@ -9,9 +9,9 @@ use std::test::*;
 fn with_one_value_nothing_rises(rt: HostRuntime) -> Result<(), Fail> {
     let mut trial = Trial::<Only>::new(rt.alloc(), 2)?;
     let flows = [moved(0, 1), made(FIELD, 0), from_two(ARITH, 0, 1, 0)];
-    trial.check_step(&flows, 3)?;
+    trial.check_step(&rt, &flows, 3)?;
     let mut list = [99; 1];
-    trial.check_explained(&mut list, None, 0)?;
+    trial.check_explained(&rt, &mut list, None, 0)?;
     assert_eq!(rt; list, [99]);
     Ok(())
 }
@@ -22,5 +22,5 @@ fn with_one_value_every_bound_is_broken(rt: HostRuntime) -> Result<(), Fail> {
     let mut trial = Trial::<Only>::new(rt.alloc(), 1)?;
     trial.add_bound(0, 0)?;
     assert_eq!(rt; trial.first_broken(), Some(0));
-    trial.check_explained(&mut [], Some(0), 0)
+    trial.check_explained(&rt, &mut [], Some(0), 0)
 }

@@ -37,16 +37,19 @@ fn a_variable_rises_as_often_as_the_height(rt: HostRuntime) -> Result<(), Fail> 
     let evaluations = trial.step(&late_sources())?;
     assert_eq!(rt; evaluations, 13);
     assert!(rt; evaluations <= MOST);
-    trial.check_values(&[
-        all(),
-        all(),
-        Sources::value(1),
-        Sources::value(2),
-        Sources::value(2),
-    ])?;
+    trial.check_values(
+        &rt,
+        &[
+            all(),
+            all(),
+            Sources::value(1),
+            Sources::value(2),
+            Sources::value(2),
+        ],
+    )?;
     // v0 rises by f4, f1 and f2, and its reader, f0, after each of them.
     let mut list = [99; 10];
-    trial.check_explained(&mut list, None, 9)?;
+    trial.check_explained(&rt, &mut list, None, 9)?;
     assert_eq!(rt; list, [4, 5, 6, 0, 1, 3, 0, 2, 0, 99]);
     Ok(())
 }
@@ -55,11 +58,11 @@ fn a_variable_rises_as_often_as_the_height(rt: HostRuntime) -> Result<(), Fail> 
 #[test]
 fn each_new_name_wakes_the_reader(rt: HostRuntime) -> Result<(), Fail> {
     let mut trial = Trial::<Sources>::new(rt.alloc(), 2)?;
-    trial.check_step(&[moved(0, 1)], 1)?;
+    trial.check_step(&rt, &[moved(0, 1)], 1)?;
     for name in 0..3 {
-        trial.check_step(&[named(name, 0)], 2)?;
+        trial.check_step(&rt, &[named(name, 0)], 2)?;
     }
     // A name that is there already raises nothing.
-    trial.check_step(&[named(1, 0)], 1)?;
-    trial.check_values(&[all(), all()])
+    trial.check_step(&rt, &[named(1, 0)], 1)?;
+    trial.check_values(&rt, &[all(), all()])
 }

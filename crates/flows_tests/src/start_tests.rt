@@ -12,12 +12,12 @@ fn only_flows_from_the_start_on_are_queued(rt: HostRuntime) -> Result<(), Fail> 
     trial.add_flows(&[made(FIELD, 0), moved(0, 1)])?;
     for from in [2, 3, 2048, 65535] {
         assert_eq!(rt; trial.settle(from)?, 0);
-        trial.check_values(&[Origin::bottom(); 2])?;
+        trial.check_values(&rt, &[Origin::bottom(); 2])?;
     }
     assert_eq!(rt; trial.settle(1)?, 1);
-    trial.check_values(&[Origin::bottom(); 2])?;
+    trial.check_values(&rt, &[Origin::bottom(); 2])?;
     assert_eq!(rt; trial.settle(0)?, 2);
-    trial.check_values(&[Origin::value(ENTERED); 2])?;
+    trial.check_values(&rt, &[Origin::value(ENTERED); 2])?;
     assert_eq!(rt; trial.settle(2)?, 0);
-    trial.check_values(&[Origin::value(ENTERED); 2])
+    trial.check_values(&rt, &[Origin::value(ENTERED); 2])
 }

@@ -122,8 +122,13 @@ impl<K: Kind> Trial<K> {
         self.settle(from)
     }
 
-    pub fn check_step(&mut self, flows: &[Flow], evaluations: usize) -> Result<(), Fail> {
-        assert_eq!(self.step(flows)?, evaluations, "evaluations");
+    pub fn check_step(
+        &mut self,
+        rt: &impl Abort,
+        flows: &[Flow],
+        evaluations: usize,
+    ) -> Result<(), Fail> {
+        assert_eq!(rt; self.step(flows)?, evaluations, "evaluations");
         Ok(())
     }
 
@@ -148,13 +153,14 @@ impl<K: Kind> Trial<K> {
 
     pub fn check_explained(
         &mut self,
+        rt: &impl Abort,
         list: &mut [FlowNumber],
         bound: Option<BoundNumber>,
         rises: usize,
     ) -> Result<(), Fail> {
         let explanation = self.explain(list)?;
-        assert_eq!(explanation.bound, bound, "the bound");
-        assert_eq!(explanation.rises, rises, "rises");
+        assert_eq!(rt; explanation.bound, bound, "the bound");
+        assert_eq!(rt; explanation.rises, rises, "rises");
         Ok(())
     }
 
@@ -162,16 +168,16 @@ impl<K: Kind> Trial<K> {
         self.network.first_broken(self.values.as_slice())
     }
 
-    pub fn check_value(&self, variable: usize, expected: K) -> Result<(), Fail> {
+    pub fn check_value(&self, rt: &impl Abort, variable: usize, expected: K) -> Result<(), Fail> {
         let value = self.values.get(variable).ok_or("no such value")?;
-        assert!(same(*value, expected), "variable {variable}");
+        assert!(rt; same(*value, expected), "variable {variable}");
         Ok(())
     }
 
     // Checks the variables from number 0 on.
-    pub fn check_values(&self, expected: &[K]) -> Result<(), Fail> {
+    pub fn check_values(&self, rt: &impl Abort, expected: &[K]) -> Result<(), Fail> {
         for (variable, value) in expected.iter().enumerate() {
-            self.check_value(variable, *value)?;
+            self.check_value(rt, variable, *value)?;
         }
         Ok(())
     }
