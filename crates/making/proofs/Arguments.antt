@@ -1,10 +1,10 @@
 -- Arguments and parameters one by one. Assumes nothing.
-use Rattle.std.proofs.Common.{◌≡◌, ℕ, zero, suc, ◌+◌, ◌<◌, ◌≤◌, min, eqb, ◌⊎◌, List, [], ◌∷◌, map, length, get_or, drop, Some, None, Option, sym, refl, ap, ◌∙◌, inl, inr, ⊎_elim, arith}
+use Rattle.std.proofs.Common.{◌≡◌, ℕ, zero, suc, ◌+◌, ◌<◌, ◌≤◌, min, eqb, ◌⊎◌, List, [], ◌∷◌, length, get_or, drop, Some, None, refl, ap, ◌∙◌, inl, inr, ⊎_elim, arith}
 use Rattle.refusals.specs.declared.refusal.Refusal.TheVariants.{Unfit}
 use Rattle.rules.specs.Calls.{Operand as Argument, ints, fit, passes, value_of}
 use Rattle.rules.specs.Making.{Levels as TypeLevels, levels, ◌▸◌, give, demand, makes, into}
 use Rattle.rules.specs.Parts.{int}
-use Rattle.making.specs.Holding.{clip_source, clip_levels, clip_operand, SameLevels, SameTypes, SameOperands}
+use Rattle.making.specs.Holding.{clip_levels, clip_operand, SameLevels, SameTypes, SameOperands}
 use Rattle.making.specs.declared.output.Levels.{Levels}
 use Rattle.making.specs.declared.output.Operand.{Operand}
 use Rattle.std.proofs.lemmas.List.{drop_more, drop_all, get_or-map, length-map}

@@ -1,7 +1,7 @@
 -- All that came since is taken back. Assumes nothing.
-use Rattle.std.proofs.Common.{◌≡◌, ℕ, ◌+◌, ◌≤◌, Bool, true, cond, List, length, take, vec_items, sym, refl, ap, ◌∙◌, subst, arith}
+use Rattle.std.proofs.Common.{◌≡◌, ℕ, ◌≤◌, Bool, true, cond, List, length, take, vec_items, sym, ap, ◌∙◌, subst, arith}
 use Rattle.flows.proofs.Built.{is_closed, is_bounded}
-use Rattle.flows.specs.Networks.{Contents, contents, Closed, Bounded, Earlier, cut}
+use Rattle.flows.specs.Networks.{contents, Closed, Bounded, Earlier, cut}
 use Rattle.making.specs.Holding.{Grown}
 use Rattle.making.specs.Settled.{Settled, Remembers}
 use Rattle.making.specs.declared.output.Before.{Before}

@@ -1,16 +1,16 @@
 -- What the state holds with one more bound or binder. Assumes nothing.
-use Rattle.std.proofs.Common.{◌≡◌, ℕ, ◌+◌, ◌-◌, ◌^◌, ◌<◌, ◌≤◌, min, true, cond, ltb, List, [], ◌∷◌, ◌++◌, map, length, Some, None, vec_items, Option, sym, refl, ap, ◌∙◌, subst, arith}
-use Rattle.flows.specs.Limits.{most_variables, most_flows, most_bounds}
+use Rattle.std.proofs.Common.{◌≡◌, ◌+◌, ◌-◌, ◌^◌, ◌<◌, min, true, ltb, List, [], ◌∷◌, ◌++◌, map, length, Some, None, vec_items, Option, sym, refl, ap, ◌∙◌, subst, arith}
+use Rattle.flows.specs.Limits.{most_variables, most_bounds}
 use Rattle.flows.specs.Networks.{Contents, contents, room_for_bound, with_bound}
 use Rattle.flows.specs.declared.flow.Bound.{Bound}
 use Rattle.making.proofs.Keeping.{longer_push, longer_same, longer_both}
 use Rattle.making.specs.Handing.{handed_bound}
-use Rattle.making.specs.Holding.{clip, clip_binder, SameBinder, most_binders, Fits, Grown, Kept, Holds}
+use Rattle.making.specs.Holding.{clip_binder, SameBinder, most_binders, Fits, Holds}
 use Rattle.making.specs.declared.output.Binder.{Binder}
 use Rattle.making.specs.declared.output.Output.{Output}
 use Rattle.rules.specs.Making.{Made, Binder as Noted}
 use Rattle.rules.specs.Staying.{Longer}
-use Rattle.std.proofs.lemmas.List.{length_push, length-map, map_push, append-nil, get_or_push, get_or_append_left}
+use Rattle.std.proofs.lemmas.List.{length_push, length-map, map_push, get_or_push, get_or_append_left}
 use Rattle.std.proofs.lemmas.Bool.{lt-ltb, and_from, cond-true, cond_both}
 
 module _ (c : Contents) where

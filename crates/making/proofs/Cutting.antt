@@ -1,20 +1,18 @@
 -- A network that is filled with variables, and cut back to those that are made. Assumes nothing.
-use Rattle.std.proofs.Common.{◌≡◌, ℕ, ◌+◌, ◌<◌, ◌≤◌, Bool, true, false, cond, ltb, List, length, take, vec_items, sym, refl, ap, ◌∙◌, subst, arith}
+use Rattle.std.proofs.Common.{◌≡◌, ℕ, ◌+◌, ◌<◌, ◌≤◌, Bool, true, false, cond, length, take, vec_items, sym, refl, ap, ◌∙◌, subst, arith}
 use Rattle.flows.proofs.Built.{inside_more}
-use Rattle.flows.specs.Flows.{inside, flow}
-use Rattle.flows.specs.Limits.{most_variables, most_flows, most_bounds}
+use Rattle.flows.specs.Flows.{flow}
+use Rattle.flows.specs.Limits.{most_variables}
 use Rattle.flows.specs.Networks.{Contents, contents, room_for_variable, with_variable, Closed, Bounded, Earlier, cut}
-use Rattle.flows.specs.declared.flow.Bound.{Bound}
-use Rattle.flows.specs.declared.flow.Flow.{Flow}
 use Rattle.flows.specs.declared.network.Counts.{Counts}
 use Rattle.making.proofs.Keeping.{longer_same}
-use Rattle.making.specs.Holding.{clip, Fits, Kept, Grown, Holds}
+use Rattle.making.specs.Holding.{Fits, Kept, Grown, Holds}
 use Rattle.making.specs.Settled.{Within, Settled}
 use Rattle.making.specs.declared.output.Output.{Output}
 use Rattle.rules.specs.Making.{Made}
 use Rattle.rules.specs.Staying.{Longer}
 use Rattle.std.proofs.lemmas.List.{take_all}
-use Rattle.std.proofs.lemmas.Bool.{cond_both, cond-true, cond-false, ltb-true, ltb-false}
+use Rattle.std.proofs.lemmas.Bool.{cond_both, cond-true, cond-false, ltb-false}
 
 -- one more variable, where there is room
 abbrev one_more : Contents → Contents

@@ -1,12 +1,11 @@
 -- What the state holds when the network is handed one flow or bound more. Assumes nothing.
-use Rattle.std.proofs.Common.{◌≡◌, ℕ, ◌+◌, ◌-◌, ◌^◌, ◌<◌, ◌≤◌, min, true, cond, ltb, List, [], ◌∷◌, ◌++◌, length, Some, None, vec_items, Option, sym, refl, ap, ◌∙◌, subst, append_assoc, arith}
-use Rattle.flows.specs.Flows.{inside, flow}
-use Rattle.flows.specs.Limits.{most_variables, most_flows, most_bounds}
-use Rattle.flows.specs.Networks.{Contents, contents, room_for_flow, with_flow, room_for_bound, with_bound}
-use Rattle.flows.specs.declared.flow.Bound.{Bound}
+use Rattle.std.proofs.Common.{◌≡◌, ◌+◌, ◌-◌, ◌^◌, ◌<◌, min, true, ltb, List, [], ◌∷◌, ◌++◌, length, Some, None, vec_items, Option, sym, refl, ap, ◌∙◌, subst, append_assoc, arith}
+use Rattle.flows.specs.Flows.{inside}
+use Rattle.flows.specs.Limits.{most_variables, most_flows}
+use Rattle.flows.specs.Networks.{Contents, contents, room_for_flow, with_flow}
 use Rattle.flows.specs.declared.flow.Flow.{Flow}
-use Rattle.making.specs.Handing.{handed, handed_bound}
-use Rattle.making.specs.Holding.{clip, Fits, Grown, Kept, Holds}
+use Rattle.making.specs.Handing.{handed}
+use Rattle.making.specs.Holding.{Fits, Holds}
 use Rattle.making.specs.declared.output.Output.{Output}
 use Rattle.rules.specs.Making.{Made}
 use Rattle.rules.specs.Staying.{Longer}

@@ -1,5 +1,5 @@
 -- How the code's state holds what is made, and what it is for code to follow a step. Assumes nothing.
-use Rattle.std.specs.Prelude.{◌≡◌, ℕ, ◌+◌, ◌-◌, ◌^◌, ◌≤◌, min, true, List, map, length, Some, None, Ok, Err, vec_items, Option, Result}
+use Rattle.std.specs.Prelude.{◌≡◌, ℕ, ◌-◌, ◌^◌, ◌≤◌, min, List, map, length, Some, None, Ok, Err, vec_items, Option, Result}
 use Rattle.flows.specs.Limits.{most_variables, most_flows, most_bounds}
 use Rattle.flows.specs.Networks.{Contents, contents, Closed, Bounded}
 use Rattle.refusals.specs.declared.refusal.Refusal.{Refusal}

@@ -62,16 +62,16 @@ impl Output {
         at: usize,
         operands: &[Operand],
         parameters: &[Levels],
-        res: Levels,
+        outcome: Levels,
     ) -> Result<Levels, Refusal>
-        ensures { (base : Output) (f : Text) (args : List Argument) (ps : List TypeLevels) (t : TypeLevels) → at ≡ f.place → SameOperands operands.now args → SameTypes parameters.now ps → SameLevels res t → Follows (Holds base) (Grown base) SameLevels self.old self.new result (called f args (Some (function ps t))) }
+        ensures { (base : Output) (f : Text) (args : List Argument) (ps : List TypeLevels) (t : TypeLevels) → at ≡ f.place → SameOperands operands.now args → SameTypes parameters.now ps → SameLevels outcome t → Follows (Holds base) (Grown base) SameLevels self.old self.new result (called f args (Some (function ps t))) }
     {
         if operands.len() != parameters.len() {
             return Err(Refusal::Unfit(at));
         }
         all_fit(operands, parameters)?;
         self.pass(operands, parameters);
-        Ok(res)
+        Ok(outcome)
     }
 
     // A call of an operator that takes so many ints.

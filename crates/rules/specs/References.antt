@@ -1,5 +1,5 @@
 -- References by the rules: all names of a reference share what it holds. Assumes nothing.
-use Rattle.std.specs.Prelude.{◌≡◌, ℕ, ◌+◌, ◌<◌, ◌≤◌, true, List, ◌++◌, length, get_or, Some, Option, slice_index_or}
+use Rattle.std.specs.Prelude.{◌≡◌, ℕ, ◌+◌, ◌<◌, ◌≤◌, true, List, ◌++◌, length, Some, Option, slice_index_or}
 use Rattle.flows.specs.declared.flow.Flow.{Flow}
 use Rattle.flows.specs.Flows.{Meets}
 use Rattle.kinds.specs.declared.kind.Kind.{Ghosts as Kind}
@@ -80,7 +80,7 @@ pub record Shared {K : Type 0} (kind : Kind K) : Type 0 where
   -- a call of a function: each argument and its parameter
   pub call : (f : Text) (args : List Operand) (ps : List Levels) (result : Levels) (m m' : Made) (t : Levels)
       → Gives (called f args (Some (function ps result))) m t m'
-      → (length args ≡ length ps) × ((i : ℕ) (a : Operand) (p : Levels) → i < length args → Shares kind m'.flows (get_or args i a).levels (slice_index_or ps i p))
+      → (length args ≡ length ps) × ((i : ℕ) (a : Operand) (p : Levels) → i < length args → Shares kind m'.flows (slice_index_or args i a).levels (slice_index_or ps i p))
   -- `if`: each branch and the whole
   pub branch : (at bt dt : ℕ) (a b c d : Levels) (m m' : Made) (t : Levels)
       → Gives (branches at a bt b c dt d) m t m'

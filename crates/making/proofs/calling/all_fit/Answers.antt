@@ -1,6 +1,6 @@
 use Rattle.std.proofs.Common.{◌<◌, ◌≤◌, min, length, sym, refl, ◌∙◌, arith}
 use Rattle.making.proofs.Arguments.{argument, parameter, as_many, as_many_types, place_at, type_at, parameter_at, fit_at, fit_all}
-use Rattle.making.proofs.Following.{then, stop, done, met, refused, by_step}
+use Rattle.making.proofs.Following.{then, done, met, refused, by_step}
 use Rattle.making.proofs.Standing.{same_depth, equal_is, equal_not}
 use Rattle.making.proofs.calling.all_fit.Goals as goal
 

@@ -1,6 +1,6 @@
-use Rattle.std.proofs.Common.{◌<◌, length, sym, refl, arith}
+use Rattle.std.proofs.Common.{◌<◌, length, refl, arith}
 use Rattle.making.proofs.Arguments.{argument, as_many, place_at, type_at, ints_at, ints_all}
-use Rattle.making.proofs.Following.{then, stop, done, met, refused, by_step}
+use Rattle.making.proofs.Following.{then, done, met, refused, by_step}
 use Rattle.making.proofs.Standing.{equal_is, equal_not}
 use Rattle.making.proofs.calling.all_ints.Goals as goal
 

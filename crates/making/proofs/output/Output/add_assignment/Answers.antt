@@ -1,4 +1,4 @@
-use Rattle.std.proofs.Common.{◌≡◌, ◌-◌, sym, ap, ◌∙◌, arith}
+use Rattle.std.proofs.Common.{◌-◌, sym, ap, ◌∙◌, arith}
 use Rattle.rules.specs.Making.{from_1}
 use Rattle.making.proofs.Following.{then, stop, done, met, unmet}
 use Rattle.making.proofs.Standing.{same_depth, above_is, above_not, equal_is, equal_not}

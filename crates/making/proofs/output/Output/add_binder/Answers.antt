@@ -1,10 +1,10 @@
-use Rattle.std.proofs.Common.{◌≡◌, ◌<◌, [], ◌∷◌, length, vec_items, sym, refl, arith}
+use Rattle.std.proofs.Common.{[], ◌∷◌, refl, arith}
 use Rattle.making.proofs.Bounding.{binder_held}
 use Rattle.making.proofs.Keeping.{longer_same}
 use Rattle.making.proofs.output.Output.add_binder.Goals as goal
 
-pub returns-then-len-lt-MOST-BINDERS : goal.returns-then-len-lt-MOST-BINDERS
-returns-then-len-lt-MOST-BINDERS c base b e =
+pub returns-then-len-lt-MOST_BINDERS : goal.returns-then-len-lt-MOST_BINDERS
+returns-then-len-lt-MOST_BINDERS c base b e =
     record {
       agrees = λ m h. (
         tt,
@@ -16,8 +16,8 @@ returns-then-len-lt-MOST-BINDERS c base b e =
       );
     }
 
-pub returns-else-len-lt-MOST-BINDERS : goal.returns-else-len-lt-MOST-BINDERS
-returns-else-len-lt-MOST-BINDERS c base b e =
+pub returns-else-len-lt-MOST_BINDERS : goal.returns-else-len-lt-MOST_BINDERS
+returns-else-len-lt-MOST_BINDERS c base b e =
     record {
       agrees = λ m h. (
         tt,

@@ -1,4 +1,4 @@
-use Rattle.std.proofs.Common.{sym, ◌∙◌, arith}
+use Rattle.std.proofs.Common.{sym, ◌∙◌}
 use Rattle.std.proofs.lemmas.Bool.{eq-eqb, ne_eqb}
 use Rattle.making.proofs.Arguments.{as_many, as_many_types}
 use Rattle.making.proofs.Following.{then, broke, done, met, refused}

@@ -1,4 +1,4 @@
-use Rattle.std.proofs.Common.{◌≡◌, Ok}
+use Rattle.std.proofs.Common.{Ok}
 use Rattle.making.specs.declared.output.Output.{Output}
 use Rattle.making.specs.Holding.{SameLevels, Itself, Grown, Holds, Follows}
 use Rattle.rules.specs.Making.{Levels as TypeLevels, makes, both_ways}
