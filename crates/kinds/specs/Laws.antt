@@ -1,6 +1,6 @@
 -- The laws of a kind. Assumes nothing.
 use Rattle.std.specs.Prelude.{◌≡◌, ℕ, ◌<◌, ◌≤◌, Bool, true, List, [], length, ◌≢◌}
-use Rattle.std.specs.List.{AllByRecursion as All}
+use Rattle.std.specs.List.{AllByRecursion}
 
 -- `below`, "at or below", is a partial order; bottom is below every value; the join of two values is their least upper bound
 pub record Semilattice {V : Type 0} (below : V → V → Bool) (bottom : V) (join : V → V → V) : Type 0 where
@@ -38,7 +38,7 @@ longest_spelling = 16
 pub record Named {V : Type 0} (bottom : V) (names : ℕ) (spelling : ℕ → List ℕ) (value : ℕ → V) : Type 0 where
   pub spelled : (n : ℕ) → n < names → 1 ≤ length (spelling n)
   pub short : (n : ℕ) → n < names → length (spelling n) ≤ longest_spelling
-  pub letters : (n : ℕ) → n < names → All LowerCase (spelling n)
+  pub letters : (n : ℕ) → n < names → AllByRecursion LowerCase (spelling n)
   pub raised : (n : ℕ) → n < names → value n ≢ bottom
   pub unspelled : (n : ℕ) → names ≤ n → spelling n ≡ []
   pub unraised : (n : ℕ) → names ≤ n → value n ≡ bottom

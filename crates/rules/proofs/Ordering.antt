@@ -4,7 +4,7 @@ use Rattle.flows.specs.declared.flow.Bound.{Bound}
 use Rattle.flows.specs.declared.flow.Flow.{Flow}
 use Rattle.refusals.specs.declared.refusal.Refusal.{Refusal}
 use Rattle.std.proofs.ByRecursion.{All-append, All-push, All-weaker, All-get_or, All-from_get_or}
-use Rattle.std.specs.List.{AllByRecursion as All}
+use Rattle.std.specs.List.{AllByRecursion}
 use Rattle.rules.specs.Making.{Binder, Made, Step, ◌▸◌, give, refuse, demand, fresh, makes, limits, notes}
 use Rattle.rules.specs.Numbering.{Below, Ordered}
 use Rattle.rules.specs.Staying.{Gives}
@@ -13,9 +13,9 @@ use Rattle.rules.proofs.Steps.{same_made, same_answer, never, invert}
 
 -- all that is made, element by element
 pub record Neat (m : Made) : Type 0 where
-  pub flows : All (Inside m.next) m.flows
-  pub bounds : All (λ b. b.variable < m.next) m.bounds
-  pub binders : All (λ b. Below m.next b.levels) m.binders
+  pub flows : AllByRecursion (Inside m.next) m.flows
+  pub bounds : AllByRecursion (λ b. b.variable < m.next) m.bounds
+  pub binders : AllByRecursion (λ b. Below m.next b.levels) m.binders
 
 pub neat_ordered : (m : Made) → Neat m → Ordered m
 neat_ordered m h = record {
@@ -84,7 +84,7 @@ module _ (n : ℕ) where
         );
   }
 
-  pub makes_numbers : (fs : List Flow) → All (Inside n) fs → Numbers Any n (makes fs)
+  pub makes_numbers : (fs : List Flow) → AllByRecursion (Inside n) fs → Numbers Any n (makes fs)
   makes_numbers fs p = record {
     after = λ m m' u h l neat.
         let is = same_made h in (

@@ -2,7 +2,7 @@
 use Rattle.std.proofs.Common.{◌≡◌, ℕ, ◌+◌, ◌-◌, ◌≤◌, eqb, ltb, List, [], ◌∷◌, length, Some, None, Option, refl, arith}
 use Rattle.flows.specs.declared.flow.Flow.{Flow}
 use Rattle.std.proofs.lemmas.Bool.{eqb-true, ltb-true, lt-ltb}
-use Rattle.std.specs.List.{AllByRecursion as All}
+use Rattle.std.specs.List.{AllByRecursion}
 use Rattle.syntax.specs.Trees.{Text}
 use Rattle.tokens.specs.Marks.{groups_of}
 use Rattle.rules.specs.Making.{Levels, from_1, ◌▸◌, give, fresh, makes}
@@ -19,7 +19,7 @@ given : (n : ℕ) (t : Levels) → Below n t → Numbers Below n (give t)
 given n t b = give_numbers Below n t (λ k l. omega arith)
 
 -- a new type, flows into it, and it is given
-made : (n d : ℕ) (fs : Levels → List Flow) → ((k : ℕ) (t : Levels) → n ≤ k → Below k t → t.depth ≡ d → All (Inside k) (fs t)) → Numbers Below n (fresh d ▸ λ t. makes (fs t) ▸ λ _. give t)
+made : (n d : ℕ) (fs : Levels → List Flow) → ((k : ℕ) (t : Levels) → n ≤ k → Below k t → t.depth ≡ d → AllByRecursion (Inside k) (fs t)) → Numbers Below n (fresh d ▸ λ t. makes (fs t) ▸ λ _. give t)
 made n d fs h = then_numbers _ (fresh_numbers n d) (λ k t l p. then_numbers _ (makes_numbers k (fs t) (h k t l p.0 p.1)) (λ j _ u _. given j t (omega (arith, p.0))))
 
 pub literal_numbers : (n : ℕ) → Numbers Below n literal
@@ -84,14 +84,14 @@ ints_numbers : (n : ℕ) (args : List Operand) → Numbers Any n (ints args)
 ints_numbers n [] = give_numbers Any n tt (λ _ _. tt)
 ints_numbers n (a ∷ args) = then_numbers _ (demand_numbers n _ _) (λ k _ l _. ints_numbers k args)
 
-passes_numbers : (n : ℕ) (args : List Operand) (ps : List Levels) → All (λ a. Below n a.levels) args → All (Below n) ps → Fitted args ps → Numbers Any n (passes args ps)
+passes_numbers : (n : ℕ) (args : List Operand) (ps : List Levels) → AllByRecursion (λ a. Below n a.levels) args → AllByRecursion (Below n) ps → Fitted args ps → Numbers Any n (passes args ps)
 passes_numbers n [] ps h k f = give_numbers Any n tt (λ _ _. tt)
 passes_numbers n (a ∷ args) [] h k f = give_numbers Any n tt (λ _ _. tt)
 passes_numbers n (a ∷ args) (p ∷ ps) h k f =
     then_numbers _ (makes_numbers n _ (into_inside n a.levels p h.0 (omega (arith, k.0, f.0)))) (λ j _ l _.
     passes_numbers j args ps (operands_more n j l args h.1) (types_more n j l ps k.1) f.1)
 
-pub called_numbers : (n : ℕ) (f : Text) (args : List Operand) (s : Option Sense) → All (λ a. Below n a.levels) args → FoundBelow n s → Numbers Below n (called f args s)
+pub called_numbers : (n : ℕ) (f : Text) (args : List Operand) (s : Option Sense) → AllByRecursion (λ a. Below n a.levels) args → FoundBelow n s → Numbers Below n (called f args s)
 called_numbers n f args None h b = refuse_numbers Below n _
 called_numbers n f args (Some (a_value t)) h b = refuse_numbers Below n _
 called_numbers n f args (Some (predeclared op c)) h b =

@@ -6,7 +6,7 @@ use Rattle.kinds.specs.declared.kind.Kind.{Ghosts as Kind}
 use Rattle.kinds.specs.Lawful.{Lawful}
 use Rattle.std.proofs.ByRecursion.{All-from_get_or}
 use Rattle.std.proofs.lemmas.Bool.{cases_eq}
-use Rattle.std.specs.List.{AllByRecursion as All}
+use Rattle.std.specs.List.{AllByRecursion}
 use Rattle.syntax.specs.Trees.{Expr, Assign}
 use Rattle.rules.specs.Making.{Levels, from_1, Made, move, both_ways, into}
 use Rattle.rules.specs.References.{Among, Equal, Shares, Linked, same, onward, back, Seen, Stored, Shared}
@@ -19,11 +19,11 @@ use Rattle.rules.proofs.Grown.{extends_trans, assigned_grows}
 use Rattle.rules.proofs.Walked.{infers_grows, all_stay}
 use Rattle.rules.proofs.Reached.{script_reaches}
 
-all_left : {X : Type 0} (P : X → Type 0) (xs ys : List X) → All P (xs ++ ys) → All P xs
+all_left : {X : Type 0} (P : X → Type 0) (xs ys : List X) → AllByRecursion P (xs ++ ys) → AllByRecursion P xs
 all_left P [] ys h = tt
 all_left P (x ∷ xs) ys h = (h.0, all_left P xs ys h.1)
 
-all_right : {X : Type 0} (P : X → Type 0) (xs ys : List X) → All P (xs ++ ys) → All P ys
+all_right : {X : Type 0} (P : X → Type 0) (xs ys : List X) → AllByRecursion P (xs ++ ys) → AllByRecursion P ys
 all_right P [] ys h = h
 all_right P (x ∷ xs) ys h = all_right P xs ys h.1
 
@@ -31,14 +31,14 @@ module _ {K : Type 0} (kind : Kind K) (lawful : Lawful kind) where
   abbrev Met : (ℕ → K) → Flow → Type 0
   Met a f = met kind a f ≡ true
 
-  part_met : (a : ℕ → K) (part flows : List Flow) → Among part flows → Meets kind flows a → All (Met a) part
-  part_met a part flows p h = all_left (Met a) part p.1 (all_right (Met a) p.0 (part ++ p.1) (subst (All (Met a)) p.2 (All-from_get_or (Met a) flows _ h)))
+  part_met : (a : ℕ → K) (part flows : List Flow) → Among part flows → Meets kind flows a → AllByRecursion (Met a) part
+  part_met a part flows p h = all_left (Met a) part p.1 (all_right (Met a) p.0 (part ++ p.1) (subst (AllByRecursion (Met a)) p.2 (All-from_get_or (Met a) flows _ h)))
 
   -- a move that is met
   under : (a : ℕ → K) (s t : ℕ) → Met a (move s t) → kind.below (a s) (a t) ≡ true
   under a s t h = subst (λ z. kind.below z (a t) ≡ true) (lawful.operators.move (a s) kind.bottom) h
 
-  levels_equal : (a : ℕ → K) (s t d : ℕ) → All (Met a) (both_ways s t d) → (i : ℕ) → 1 ≤ i → i ≤ d → a (s + i) ≡ a (t + i)
+  levels_equal : (a : ℕ → K) (s t d : ℕ) → AllByRecursion (Met a) (both_ways s t d) → (i : ℕ) → 1 ≤ i → i ≤ d → a (s + i) ≡ a (t + i)
   levels_equal a s t zero h i l u = absurd (omega arith)
   levels_equal a s t (suc d) h i l u =
       let last = all_right (Met a) (both_ways s t d) (move (s + (d + 1)) (t + (d + 1)) ∷ move (t + (d + 1)) (s + (d + 1)) ∷ []) h in

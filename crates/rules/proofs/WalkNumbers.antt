@@ -1,7 +1,7 @@
 -- A walk numbers in order. Assumes nothing.
 use Rattle.std.proofs.Common.{ℕ, ◌≤◌, List, [], ◌∷◌, ◌++◌, Option, arith}
 use Rattle.std.proofs.ByRecursion.{All-append, All-push, All-map, All-weaker}
-use Rattle.std.specs.List.{AllByRecursion as All}
+use Rattle.std.specs.List.{AllByRecursion}
 use Rattle.syntax.specs.declared.tree.Ty.{Ty}
 use Rattle.syntax.specs.Trees.{Text, Expr, Literal, Variable, Group, Assign, Let, Bounded, Ref, Read, Call, Arith, If, Arguments, Last, More, Bindings, Final, Then, Parameter, Parameters, Sole, And, Declaration, Val, Fun}
 use Rattle.rules.specs.Making.{Levels, nothing}
@@ -19,15 +19,15 @@ abbrev BindingBelow : ℕ → Binding → Type 0
 BindingBelow k b = SenseBelow k b.sense
 
 abbrev OperandsBelow : ℕ → List Operand → Type 0
-OperandsBelow k args = All (λ a. Below k a.levels) args
+OperandsBelow k args = AllByRecursion (λ a. Below k a.levels) args
 
 abbrev TypedBelow : ℕ → List Typed → Type 0
-TypedBelow k ps = All (λ p. Below k p.levels) ps
+TypedBelow k ps = AllByRecursion (λ p. Below k p.levels) ps
 
 typed_more : (n k : ℕ) → n ≤ k → (ps : List Typed) → TypedBelow n ps → TypedBelow k ps
 typed_more n k l ps h = All-weaker (λ p. Below n p.levels) (λ p. Below k p.levels) (λ p b. omega arith) ps h
 
-types_below : (n : ℕ) (ps : List Typed) → TypedBelow n ps → All (Below n) (types_of ps)
+types_below : (n : ℕ) (ps : List Typed) → TypedBelow n ps → AllByRecursion (Below n) (types_of ps)
 types_below n ps h = All-map (Below n) (λ p. p.levels) ps h
 
 values_below : (n : ℕ) (ps : List Typed) → TypedBelow n ps → ScopeBelow n (values_of ps)

@@ -1,7 +1,7 @@
 -- Variables are numbered as they are made: all that is made, and all that is in force, has variables below the next. Assumes nothing.
 use Rattle.std.specs.Prelude.{ℕ, ◌+◌, ◌<◌, List, [], ◌++◌, Option}
 use Rattle.flows.specs.Networks.{Closed, Bounded}
-use Rattle.std.specs.List.{AllByRecursion as All}
+use Rattle.std.specs.List.{AllByRecursion}
 use Rattle.syntax.specs.Trees.{Expr, Arguments, Bindings, Declaration}
 use Rattle.rules.specs.Making.{Levels, Made, nothing}
 use Rattle.rules.specs.Scopes.{Sense, a_value, predeclared, function, Binding, Scope, predeclared_names}
@@ -17,17 +17,17 @@ Below n t = t.first + t.depth < n
 abbrev pub SenseBelow : ℕ → Sense → Type 0
 SenseBelow n (a_value t) = Below n t
 SenseBelow n (predeclared op count) = Unit {0}
-SenseBelow n (function ps t) = All (Below n) ps × Below n t
+SenseBelow n (function ps t) = AllByRecursion (Below n) ps × Below n t
 
 -- of all that is in force
 abbrev pub ScopeBelow : ℕ → Scope → Type 0
-ScopeBelow n Σ = All (λ b. SenseBelow n b.sense) Σ
+ScopeBelow n Σ = AllByRecursion (λ b. SenseBelow n b.sense) Σ
 
 -- of all that is made
 pub record Ordered (m : Made) : Type 0 where
   pub flows : Closed m.next m.flows
   pub bounds : Bounded m.next m.bounds
-  pub binders : All (λ b. Below m.next b.levels) m.binders
+  pub binders : AllByRecursion (λ b. Below m.next b.levels) m.binders
 
 pub record Numbered : Type 0 where
   pub expression : (find : List ℕ → Option ℕ) (Σ : Scope) (e : Expr) (m m' : Made) (t : Levels)
@@ -39,7 +39,7 @@ pub record Numbered : Type 0 where
       → Gives (arguments find Σ [] args) m operands m'
       → ScopeBelow m.next Σ
       → Ordered m
-      → Ordered m' × All (λ a. Below m'.next a.levels) operands
+      → Ordered m' × AllByRecursion (λ a. Below m'.next a.levels) operands
   pub lets : (find : List ℕ → Option ℕ) (Σ : Scope) (vals : Bindings) (m m' : Made) (new : List Binding)
       → Gives (locals find Σ vals) m new m'
       → ScopeBelow m.next Σ

@@ -1,6 +1,6 @@
 -- Each token that stands at the front of a text is found there. Assumes nothing.
 use Rattle.std.proofs.Common.{◌≡◌, ℕ, ◌+◌, ◌≤◌, Bool, true, false, cond, ◌&&◌, eqb, List, [], ◌∷◌, ◌++◌, length, take, drop, None, codes, sym, refl, ap, ◌∙◌, subst, append_assoc, arith, length-append}
-use Rattle.std.specs.List.{prefix_len, AllByRecursion as All}
+use Rattle.std.specs.List.{prefix_len, AllByRecursion}
 use Rattle.std.specs.Str.{bytes_eq}
 use Rattle.std.proofs.lemmas.Slice.Eq.{bytes_eq-Decides}
 use Rattle.std.proofs.lemmas.List.{take_at, drop_at}
@@ -19,7 +19,7 @@ use Rattle.tokens.proofs.Groups.{grouped_complete, grouped_marking, name_letters
 
 -- ---- words and identifiers
 
-word_at : (b : ℕ) (s rest : List ℕ) → letter b ≡ true → All (λ c. tail c ≡ true) s → length (b ∷ s) ≤ 16 → Before tail rest → token_at ((b ∷ s) ++ rest) ≡ sized (length (b ∷ s)) (word_of (b ∷ s))
+word_at : (b : ℕ) (s rest : List ℕ) → letter b ≡ true → AllByRecursion (λ c. tail c ≡ true) s → length (b ∷ s) ≤ 16 → Before tail rest → token_at ((b ∷ s) ++ rest) ≡ sized (length (b ∷ s)) (word_of (b ∷ s))
 word_at b s rest is-letter each short stops =
     cond-true (letter b) _ _ is-letter
     ∙ ap (λ n. word_run n ((b ∷ s) ++ rest)) (leading_front tail (b ∷ s) rest (or_left (letter b) _ is-letter, each) stops)
@@ -55,7 +55,7 @@ reserved_at Mod rest h = word_at 109 (codes "od") rest refl (refl, (refl, tt)) (
 no_letter : (b : ℕ) → digit b ≡ true → letter b ≡ false
 no_letter b h = grind (arith, nat_tests)
 
-literal_at : (s rest : List ℕ) → 1 ≤ length s → length s ≤ 9 → All (λ b. digit b ≡ true) s → Before digit rest → token_at (s ++ rest) ≡ sized (length s) (literal s)
+literal_at : (s rest : List ℕ) → 1 ≤ length s → length s ≤ 9 → AllByRecursion (λ b. digit b ≡ true) s → Before digit rest → token_at (s ++ rest) ≡ sized (length s) (literal s)
 literal_at [] rest some short each stops = absurd (omega arith)
 literal_at (b ∷ s) rest some short each stops =
     cond-false (letter b) _ _ (no_letter b each.0)
@@ -67,7 +67,7 @@ literal_at (b ∷ s) rest some short each stops =
 -- ---- symbols
 
 -- a run of operator characters
-run_at : (s rest : List ℕ) → All (λ b. operator b ≡ true) s → Before operator rest → operator_run (prefix_len operator (s ++ rest)) (s ++ rest) ≡ size_symbol (length s) (operator_of s)
+run_at : (s rest : List ℕ) → AllByRecursion (λ b. operator b ≡ true) s → Before operator rest → operator_run (prefix_len operator (s ++ rest)) (s ++ rest) ≡ size_symbol (length s) (operator_of s)
 run_at s rest each stops =
     ap (λ n. operator_run n (s ++ rest)) (leading_front operator s rest each stops)
     ∙ ap (λ l. size_symbol (length s) (operator_of l)) (take_at s rest (length s) refl)
@@ -90,7 +90,7 @@ symbol_at Semicolon rest h = refl
 -- ---- marks
 
 -- the text of a mark, with `*)` behind it
-mark_front : (test : ℕ → Bool) (m rest : List ℕ) → All (λ b. test b ≡ true) m → test 42 ≡ false → prefix_len test ((m ++ codes "*)") ++ rest) ≡ length m
+mark_front : (test : ℕ → Bool) (m rest : List ℕ) → AllByRecursion (λ b. test b ≡ true) m → test 42 ≡ false → prefix_len test ((m ++ codes "*)") ++ rest) ≡ length m
 mark_front test m rest each star =
     ap (prefix_len test) (append_assoc m (codes "*)") rest) ∙ leading_front test m (codes "*)" ++ rest) each star
 
@@ -176,7 +176,7 @@ begins_symbol Close = begin _ _ refl
 begins_symbol Comma = begin _ _ refl
 begins_symbol Semicolon = begin _ _ refl
 
-begins_literal : (s : List ℕ) → 1 ≤ length s → All (λ b. digit b ≡ true) s → Begins s
+begins_literal : (s : List ℕ) → 1 ≤ length s → AllByRecursion (λ b. digit b ≡ true) s → Begins s
 begins_literal [] some each = absurd (omega arith)
 begins_literal (b ∷ s) some each = begin b s (no_blank_digit b each.0)
 

@@ -1,6 +1,6 @@
 -- Where no token as long as can be stands, the longest run of its class is none. Assumes nothing.
 use Rattle.std.proofs.Common.{◌≡◌, ℕ, ◌≤◌, Bool, true, false, eqb, List, [], ◌∷◌, ◌++◌, length, take, drop, sym, refl, ap, ◌∙◌, arith, take-append-drop}
-use Rattle.std.specs.List.{prefix_len, AllByRecursion as All}
+use Rattle.std.specs.List.{prefix_len, AllByRecursion}
 use Rattle.std.proofs.lemmas.Bool.{eqb-true, both_ways, or_left}
 use Rattle.std.proofs.lemmas.Bool.Decides.{nat_tests}
 use Rattle.tokens.specs.Bytes.{letter, digit, tail, operator}
@@ -39,7 +39,7 @@ named_head : (s : List ℕ) → Named s → letter (head s) ≡ true
 named_head [] h = absurd h
 named_head (b ∷ s) h = h.0
 
-literal_head : (s : List ℕ) → 1 ≤ length s → All (λ b. digit b ≡ true) s → digit (head s) ≡ true
+literal_head : (s : List ℕ) → 1 ≤ length s → AllByRecursion (λ b. digit b ≡ true) s → digit (head s) ≡ true
 literal_head [] some each = absurd (omega arith)
 literal_head (b ∷ s) some each = each.0
 

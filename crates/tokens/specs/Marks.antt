@@ -1,7 +1,7 @@
 -- What stands in a mark: groups joined by `/`, each of names joined by `,`. Assumes nothing.
 use Rattle.std.specs.Prelude.{◌≡◌, ℕ, ◌≤◌, Bool, true, cond, ◌&&◌, List, [], ◌∷◌, ◌++◌, map, length, Some, None, Option, ◌==◌, nat_le}
 use Rattle.std.specs.Borrow.{Bor}
-use Rattle.std.specs.List.{AllByRecursion as All}
+use Rattle.std.specs.List.{AllByRecursion}
 use Rattle.tokens.specs.Bytes.{byte, letter}
 use Rattle.tokens.specs.Limits.{longest_name}
 
@@ -22,7 +22,7 @@ join c (s ∷ t ∷ ts) = s ++ (c ∷ join c (t ∷ ts))
 -- m is groups joined by `/`; a group is empty, or names joined by `,`
 pub record Grouped (m : List ℕ) (groups : List (List (List ℕ))) : Type 0 where
   pub some : 1 ≤ length groups
-  pub named : All (λ g. All (λ n. name n ≡ true) g) groups
+  pub named : AllByRecursion (λ g. AllByRecursion (λ n. name n ≡ true) g) groups
   pub joined : m ≡ join (byte "/") (map (join (byte ",")) groups)
 
 -- how a mark is taken apart again: what stands between the bytes c

@@ -1,13 +1,13 @@
 -- What it means that a text reads as tokens, and where it does not. Assumes nothing.
 use Rattle.std.specs.Prelude.{◌≡◌, ℕ, ◌+◌, ◌<◌, ◌≤◌, true, List, [], ◌∷◌, ◌++◌, length}
-use Rattle.std.specs.List.{AllByRecursion as All}
+use Rattle.std.specs.List.{AllByRecursion}
 use Rattle.refusals.specs.Refusals.{longest_text}
 use Rattle.tokens.specs.Bytes.{blank}
 use Rattle.tokens.specs.Tokens.{Tok, Placed, Spells, Ends, Before}
 use Rattle.tokens.specs.Lexer.{Lexed, read, no_token, too_long}
 
 abbrev pub Blanks : List ℕ → Type 0
-Blanks bs = All (λ b. blank b ≡ true) bs
+Blanks bs = AllByRecursion (λ b. blank b ≡ true) bs
 
 -- At the front of some bytes, of which the first has the place p, stand blanks and then the token t, as long as it can be.
 pub record Front (p : ℕ) (bs : List ℕ) (t : Placed) : Type 0 where

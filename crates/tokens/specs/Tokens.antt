@@ -1,6 +1,6 @@
 -- The rules of tokens: which bytes spell which token, and which byte after them would be a part of it. Assumes nothing.
 use Rattle.std.specs.Prelude.{◌≡◌, ℕ, ◌≤◌, Bool, true, false, List, [], ◌∷◌, ◌++◌, length, codes, ◌==◌, ◌≢◌}
-use Rattle.std.specs.List.{AllByRecursion as All}
+use Rattle.std.specs.List.{AllByRecursion}
 use Rattle.tokens.specs.Bytes.{byte, letter, digit, tail, operator}
 use Rattle.tokens.specs.Limits.{longest_name, longest_literal}
 use Rattle.tokens.specs.Marks.{name, Grouped}
@@ -54,13 +54,13 @@ sign Semicolon = codes ";"
 abbrev pub Named : List ℕ → Type 0
 Named [] = ⊥
 Named (b ∷ bs) =
-    (letter b ≡ true) × All (λ c. tail c ≡ true) bs × (length (b ∷ bs) ≤ longest_name) × ((w : Word) → (b ∷ bs) ≢ spelling w)
+    (letter b ≡ true) × AllByRecursion (λ c. tail c ≡ true) bs × (length (b ∷ bs) ≤ longest_name) × ((w : Word) → (b ∷ bs) ≢ spelling w)
 
 -- these bytes are this token
 abbrev pub Spells : List ℕ → Tok → Type 0
 Spells s (word w) = s ≡ spelling w
 Spells s (symbol y) = s ≡ sign y
-Spells s (literal d) = (s ≡ d) × (1 ≤ length s) × (length s ≤ longest_literal) × All (λ b. digit b ≡ true) s
+Spells s (literal d) = (s ≡ d) × (1 ≤ length s) × (length s ≤ longest_literal) × AllByRecursion (λ b. digit b ≡ true) s
 Spells s (identifier n) = (s ≡ n) × Named s
 Spells s (binder m) = (s ≡ codes "(*$" ++ (m ++ codes "*)")) × ((groups : List (List (List ℕ))) × Grouped m groups)
 Spells s (bound m) = (s ≡ codes "(*!" ++ (m ++ codes "*)")) × (name m ≡ true)
