@@ -1,5 +1,5 @@
 -- What a goal becomes at a token that can begin it. Assumes nothing.
-use Rattle.std.specs.Prelude.{ℕ, ◌-◌, cond, List, [], ◌∷◌, ◌++◌, Some, None, Option, nat_lt}
+use Rattle.std.specs.Prelude.{ℕ, ◌-◌, cond, [], ◌∷◌, ◌++◌, Some, None, Option, nat_lt}
 use Rattle.tokens.specs.Tokens.{Tok, word, symbol, literal, identifier, binder as binder_mark, bound as bound_mark}
 use Rattle.tokens.specs.declared.token.Word.TheVariants as kw
 use Rattle.tokens.specs.declared.token.Symbol.TheVariants as sg

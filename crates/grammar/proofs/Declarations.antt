@@ -1,5 +1,5 @@
 -- `val` and `fun`, and what follows them. Assumes nothing.
-use Rattle.std.proofs.Common.{◌≡◌, ℕ, ◌≤◌, List, [], ◌∷◌, Some, None, Ok, Err, Option, refl, ap, ◌∙◌, arith, Bor}
+use Rattle.std.proofs.Common.{◌≡◌, ℕ, ◌≤◌, List, ◌∷◌, Ok, Err, Option, refl, ap, ◌∙◌, arith, Bor}
 use Rattle.tokens.specs.declared.token.Token.{Token}
 use Rattle.tokens.specs.declared.token.Word.TheVariants as kw
 use Rattle.tokens.specs.declared.token.Symbol.TheVariants as sg

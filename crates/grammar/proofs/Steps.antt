@@ -1,23 +1,25 @@
 -- How the parts of an expression lead on, and what is read with them. Assumes nothing.
-use Rattle.std.proofs.Common.{◌≡◌, ℕ, ◌+◌, ◌<◌, ◌≤◌, List, [], ◌∷◌, length, Some, None, Ok, Err, Option, Result, refl, ap, ◌∙◌, arith, Bor}
+use Rattle.std.proofs.Common.{◌≡◌, ℕ, ◌+◌, ◌≤◌, List, [], ◌∷◌, ◌++◌, length, Some, None, Ok, Err, Option, Result, sym, refl, ap, ◌∙◌, arith, Bor}
 use Rattle.tokens.specs.declared.token.Token.{Token}
 use Rattle.tokens.specs.declared.token.Word.TheVariants as kw
 use Rattle.tokens.specs.declared.token.Symbol.TheVariants as sg
 use Rattle.tokens.specs.Tokens.{word, symbol, Placed}
+use Rattle.tokens.specs.Meanings.{placed}
 use Rattle.syntax.specs.declared.tree.Exp.{Exp}
 use Rattle.syntax.specs.declared.tree.Args.{Args}
 use Rattle.syntax.specs.declared.tree.Vals.{Vals}
 use Rattle.syntax.specs.declared.tree.Lexeme.{Lexeme}
 use Rattle.syntax.specs.Sorts.{at, After}
-use Rattle.goals.specs.Goals.{Goal, Goals, one, exp, sum, args, vals, level, args_goals, vals_goals}
+use Rattle.goals.specs.Goals.{Goal, Goals, one, exp, sum, app, atom, args, vals, level, args_goals, vals_goals}
+use Rattle.goals.specs.Begins.{atom_begins, app_begins}
 use Rattle.goals.specs.Machine.{more_levels, levels, fate}
-use Rattle.goals.proofs.Steps.{steps, word_taken, level_ends}
+use Rattle.goals.proofs.Steps.{on, steps, word_taken, level_ends}
 use Rattle.pieces.specs.declared.fault.Fault.{Fault}
 use Rattle.pieces.specs.declared.fault.Fault.TheVariants.{Misplaced, TooDeep, Memory}
-use Rattle.pieces.specs.Seen.{seen}
+use Rattle.pieces.specs.Seen.{seen, apart}
 use Rattle.pieces.specs.Looking.{GoesOn, Headed}
 use Rattle.pieces.specs.Reading.{Leads, Failed, Deeper, Reads, ReadsArgs, ReadsVals, Extends}
-use Rattle.pieces.specs.Making.{Made, Chosen, Mores, BindsLast, BindsMore}
+use Rattle.pieces.specs.Making.{Chosen, Mores, BindsLast, BindsMore}
 
 -- g is h and then r
 module _ (end depth : ℕ) (g h r : Goal) (flat : (n : ℕ) → more_levels r n ≡ n) (is : (S : Goals) (ts : List Placed) → fate end (g ∷ S) ts ≡ fate end (h ∷ r ∷ S) ts) where
@@ -36,6 +38,22 @@ module _ (end depth : ℕ) (g h r : Goal) (flat : (n : ℕ) → more_levels r n 
   both_read less most le ts x (Err (Misplaced p)) a b = λ S d few. is S ts ∙ a.3 (r ∷ S) (flat (levels S) ∙ d) (omega (arith, flat (levels S), few)) ∙ b S d few
   both_read less most le ts x (Err (TooDeep p)) a b = λ S d few. is S ts ∙ a.3 (r ∷ S) (flat (levels S) ∙ d) (omega (arith, flat (levels S), few)) ∙ b S d few
   both_read less most le ts x (Err Memory) a b = tt
+
+-- what begins no call, no `ref` and no `!` begins an app as it begins an atom
+abbrev pub AtomFirst : Option (Token × Bor (List Token)) → Type 0
+AtomFirst None = Unit {0}
+AtomFirst (Some x) = app_begins (placed x.0).tok ≡ atom_begins (placed x.0).tok
+
+atom_fate : (end : ℕ) (ts : List Placed) (o : Option (Token × Bor (List Token))) → ts ≡ apart o → AtomFirst o → (S : Goals) → fate end (app ∷ S) ts ≡ fate end (atom ∷ S) ts
+atom_fate end ts None is first S = ap (fate end (app ∷ S)) is ∙ sym (ap (fate end (atom ∷ S)) is)
+atom_fate end ts (Some x) is first S =
+    ap (fate end (app ∷ S)) is ∙ ap (λ gs. on end x.0.place (seen x.1) (elim gs [ Some hs ↦ Some (hs ++ S) | None ↦ None ])) first ∙ sym (ap (fate end (atom ∷ S)) is)
+
+pub atom_read : (end depth : ℕ) (ts : List Placed) (o : Option (Token × Bor (List Token))) (x : Result (Exp × Bor (List Token)) Fault) → ts ≡ apart o → AtomFirst o → Reads end 0 depth atom ts x → Reads end 1 depth app ts x
+atom_read end depth ts o (Ok x) is first a = (omega (arith, a.0), a.1, a.2, λ S d few. atom_fate end ts o is first S ∙ a.3 S d few)
+atom_read end depth ts o (Err (Misplaced p)) is first a = λ S d few. atom_fate end ts o is first S ∙ a S d few
+atom_read end depth ts o (Err (TooDeep p)) is first a = λ S d few. atom_fate end ts o is first S ∙ a S d few
+atom_read end depth ts o (Err Memory) is first a = tt
 
 module _ (end depth inner place : ℕ) (deep : Deeper depth (Some inner)) (ts : List Placed) (ra rb rc rd : Exp × Bor (List Token)) (s t u : List Placed) (a : Reads end 3 inner sum ts (Ok ra)) (less : After (symbol sg.Less) (seen ra.1) s) (b : Reads end 3 inner sum s (Ok rb)) (then : After (word kw.Then) (seen rb.1) t) (c : Reads end 4 inner exp t (Ok rc)) (else : After (word kw.Else) (seen rc.1) u) (d : Reads end 4 inner exp u (Ok rd)) where
   if_leads : Leads end depth (exp ∷ []) (at place (word kw.If) ∷ ts) [] (seen rd.1)

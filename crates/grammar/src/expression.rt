@@ -12,7 +12,7 @@ use pieces::front::{Reader, deeper, first};
 use syntax::tree::{Args, Exp, Lexeme, Vals};
 use tokens::token::{Symbol, Token, TokenKind, Word};
 
-#[cycle(app_args_assignment_atom_block_bracket_call_cell_conditional_content_exp_group_inside_named_sum_sum_rest_term_term_rest_vals)]
+#[cycle(expression)]
 pub(super) fn exp<'t, 'a>(
     reader: Reader,
     ts: &'t [Token<'a>],
@@ -27,7 +27,7 @@ pub(super) fn exp<'t, 'a>(
 }
 
 // What follows an `if` at `place`.
-#[cycle(app_args_assignment_atom_block_bracket_call_cell_conditional_content_exp_group_inside_named_sum_sum_rest_term_term_rest_vals)]
+#[cycle(expression)]
 fn conditional<'t, 'a>(
     reader: Reader,
     place: usize,
@@ -52,7 +52,7 @@ fn conditional<'t, 'a>(
     }
 }
 
-#[cycle(app_args_assignment_atom_block_bracket_call_cell_conditional_content_exp_group_inside_named_sum_sum_rest_term_term_rest_vals)]
+#[cycle(expression)]
 fn sum<'t, 'a>(
     reader: Reader,
     ts: &'t [Token<'a>],
@@ -66,7 +66,7 @@ fn sum<'t, 'a>(
     }
 }
 
-#[cycle(app_args_assignment_atom_block_bracket_call_cell_conditional_content_exp_group_inside_named_sum_sum_rest_term_term_rest_vals)]
+#[cycle(expression)]
 fn sum_rest<'t, 'a>(
     reader: Reader,
     left: Exp<'a>,
@@ -87,7 +87,7 @@ fn sum_rest<'t, 'a>(
     }
 }
 
-#[cycle(app_args_assignment_atom_block_bracket_call_cell_conditional_content_exp_group_inside_named_sum_sum_rest_term_term_rest_vals)]
+#[cycle(expression)]
 fn term<'t, 'a>(
     reader: Reader,
     ts: &'t [Token<'a>],
@@ -101,7 +101,7 @@ fn term<'t, 'a>(
     }
 }
 
-#[cycle(app_args_assignment_atom_block_bracket_call_cell_conditional_content_exp_group_inside_named_sum_sum_rest_term_term_rest_vals)]
+#[cycle(expression)]
 fn term_rest<'t, 'a>(
     reader: Reader,
     left: Exp<'a>,
@@ -122,7 +122,7 @@ fn term_rest<'t, 'a>(
     }
 }
 
-#[cycle(app_args_assignment_atom_block_bracket_call_cell_conditional_content_exp_group_inside_named_sum_sum_rest_term_term_rest_vals)]
+#[cycle(expression)]
 fn app<'t, 'a>(
     reader: Reader,
     ts: &'t [Token<'a>],
@@ -163,7 +163,7 @@ fn app<'t, 'a>(
 }
 
 // What follows a `ref` at `place`.
-#[cycle(app_args_assignment_atom_block_bracket_call_cell_conditional_content_exp_group_inside_named_sum_sum_rest_term_term_rest_vals)]
+#[cycle(expression)]
 fn cell<'t, 'a>(
     reader: Reader,
     place: usize,
@@ -182,7 +182,7 @@ fn cell<'t, 'a>(
 }
 
 // What follows a `!` at `place`.
-#[cycle(app_args_assignment_atom_block_bracket_call_cell_conditional_content_exp_group_inside_named_sum_sum_rest_term_term_rest_vals)]
+#[cycle(expression)]
 fn content<'t, 'a>(
     reader: Reader,
     place: usize,
@@ -201,7 +201,7 @@ fn content<'t, 'a>(
 }
 
 // What follows a name.
-#[cycle(app_args_assignment_atom_block_bracket_call_cell_conditional_content_exp_group_inside_named_sum_sum_rest_term_term_rest_vals)]
+#[cycle(expression)]
 fn named<'t, 'a>(
     reader: Reader,
     name: Lexeme<'a>,
@@ -217,7 +217,7 @@ fn named<'t, 'a>(
 }
 
 // What follows a name and a `(` at `place`.
-#[cycle(app_args_assignment_atom_block_bracket_call_cell_conditional_content_exp_group_inside_named_sum_sum_rest_term_term_rest_vals)]
+#[cycle(expression)]
 fn call<'t, 'a>(
     reader: Reader,
     name: Lexeme<'a>,
@@ -236,7 +236,7 @@ fn call<'t, 'a>(
     }
 }
 
-#[cycle(app_args_assignment_atom_block_bracket_call_cell_conditional_content_exp_group_inside_named_sum_sum_rest_term_term_rest_vals)]
+#[cycle(expression)]
 fn args<'t, 'a>(
     reader: Reader,
     ts: &'t [Token<'a>],
@@ -260,7 +260,7 @@ fn args<'t, 'a>(
     }
 }
 
-#[cycle(app_args_assignment_atom_block_bracket_call_cell_conditional_content_exp_group_inside_named_sum_sum_rest_term_term_rest_vals)]
+#[cycle(expression)]
 fn atom<'t, 'a>(
     reader: Reader,
     ts: &'t [Token<'a>],
@@ -310,7 +310,7 @@ fn atom<'t, 'a>(
 }
 
 // What follows a `(` at `place`.
-#[cycle(app_args_assignment_atom_block_bracket_call_cell_conditional_content_exp_group_inside_named_sum_sum_rest_term_term_rest_vals)]
+#[cycle(expression)]
 fn group<'t, 'a>(
     reader: Reader,
     place: usize,
@@ -329,7 +329,7 @@ fn group<'t, 'a>(
 }
 
 // What stands between a `(` at `place` and its `)`: the tree of both and that.
-#[cycle(app_args_assignment_atom_block_bracket_call_cell_conditional_content_exp_group_inside_named_sum_sum_rest_term_term_rest_vals)]
+#[cycle(expression)]
 fn inside<'t, 'a>(
     reader: Reader,
     place: usize,
@@ -350,7 +350,7 @@ fn inside<'t, 'a>(
     }
 }
 
-#[cycle(app_args_assignment_atom_block_bracket_call_cell_conditional_content_exp_group_inside_named_sum_sum_rest_term_term_rest_vals)]
+#[cycle(expression)]
 fn bracket<'t, 'a>(
     reader: Reader,
     place: usize,
@@ -370,7 +370,7 @@ fn bracket<'t, 'a>(
 }
 
 // What follows a `:=` behind `target`, in a bracket at `place`.
-#[cycle(app_args_assignment_atom_block_bracket_call_cell_conditional_content_exp_group_inside_named_sum_sum_rest_term_term_rest_vals)]
+#[cycle(expression)]
 fn assignment<'t, 'a>(
     reader: Reader,
     place: usize,
@@ -390,7 +390,7 @@ fn assignment<'t, 'a>(
 }
 
 // What follows a `let` at `place`.
-#[cycle(app_args_assignment_atom_block_bracket_call_cell_conditional_content_exp_group_inside_named_sum_sum_rest_term_term_rest_vals)]
+#[cycle(expression)]
 fn block<'t, 'a>(
     reader: Reader,
     place: usize,
@@ -412,7 +412,7 @@ fn block<'t, 'a>(
 }
 
 // The declarations of a `let`, from behind the first `val`.
-#[cycle(app_args_assignment_atom_block_bracket_call_cell_conditional_content_exp_group_inside_named_sum_sum_rest_term_term_rest_vals)]
+#[cycle(expression)]
 fn vals<'t, 'a>(
     reader: Reader,
     ts: &'t [Token<'a>],

@@ -1,5 +1,5 @@
 -- The front of a list of tokens, and words and symbols by their numbers. Assumes nothing.
-use Rattle.std.proofs.Common.{◌≡◌, ℕ, ◌-◌, ◌<◌, ◌≤◌, List, [], ◌∷◌, length, get_or, take, drop, sym, refl, ap, ◌∙◌, arith, take_all}
+use Rattle.std.proofs.Common.{◌≡◌, ◌-◌, ◌<◌, List, [], ◌∷◌, length, get_or, take, drop, sym, refl, ap, arith, take_all}
 
 module _ {X : Type 0} where
   pub no_item : (xs : List X) → length xs ≡ 0 → xs ≡ []

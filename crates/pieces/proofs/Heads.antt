@@ -1,5 +1,5 @@
 -- How the goals of a declaration's head lead on. Assumes nothing.
-use Rattle.std.proofs.Common.{◌≡◌, ℕ, zero, suc, ◌+◌, ◌-◌, ◌<◌, ◌≤◌, List, [], ◌∷◌, length, Some, None, Ok, Err, Box, sym, refl, ap, ◌∙◌, subst, add-one, arith, Bor}
+use Rattle.std.proofs.Common.{◌≡◌, ℕ, ◌+◌, ◌-◌, ◌<◌, ◌≤◌, List, ◌∷◌, length, Ok, Err, Box, sym, refl, ap, ◌∙◌, subst, add-one, arith, Bor}
 use Rattle.std.specs.declared.alloc.Global.{Global}
 use Rattle.tokens.specs.declared.token.Token.{Token}
 use Rattle.tokens.specs.declared.token.Word.TheVariants as kw

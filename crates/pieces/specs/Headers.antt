@@ -1,5 +1,5 @@
 -- What the parts of the parser that read a declaration's head answer. Assumes nothing.
-use Rattle.std.specs.Prelude.{◌≡◌, ℕ, ◌+◌, ◌<◌, ◌≤◌, List, [], ◌∷◌, length, Some, None, Ok, Err, Option, Result}
+use Rattle.std.specs.Prelude.{◌≡◌, ℕ, ◌+◌, ◌<◌, ◌≤◌, List, ◌∷◌, length, Some, None, Ok, Err, Option, Result}
 use Rattle.std.specs.Borrow.{Bor}
 use Rattle.tokens.specs.declared.token.Token.{Token}
 use Rattle.tokens.specs.declared.token.Word.TheVariants as kw
@@ -13,7 +13,7 @@ use Rattle.syntax.specs.Meanings.{parameter_of, parameters_of}
 use Rattle.syntax.specs.Sorts.{at, After}
 use Rattle.syntax.specs.Grammar.{Refs, Typed, Par, Pars}
 use Rattle.syntax.specs.Levels.{most_levels}
-use Rattle.goals.specs.Goals.{Goal, Goals, one, name, binder, refs, pars}
+use Rattle.goals.specs.Goals.{Goals, one, name, binder, refs, pars}
 use Rattle.goals.specs.Machine.{levels, misplaced, fate}
 use Rattle.pieces.specs.declared.fault.Fault.{Fault}
 use Rattle.pieces.specs.declared.fault.Fault.TheVariants.{Misplaced, TooDeep, Memory}

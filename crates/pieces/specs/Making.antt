@@ -1,5 +1,5 @@
 -- What the makers of trees answer: the tree of its parts, if there is memory for it. Assumes nothing.
-use Rattle.std.specs.Prelude.{◌≡◌, ℕ, ◌<◌, ◌≤◌, List, [], ◌∷◌, Ok, Err, Option, Result, Box}
+use Rattle.std.specs.Prelude.{◌≡◌, ℕ, ◌<◌, ◌≤◌, List, ◌∷◌, Ok, Err, Option, Result, Box}
 use Rattle.std.specs.declared.alloc.Global.{Global}
 use Rattle.tokens.specs.declared.token.Word.TheVariants as kw
 use Rattle.tokens.specs.declared.token.Symbol.TheVariants as sg

@@ -11,7 +11,7 @@ use Rattle.syntax.specs.Meanings.{tree_of, arguments_of, bindings_of}
 use Rattle.syntax.specs.Sorts.{at, After}
 use Rattle.syntax.specs.Grammar.{class, Spans, Lists, Binds}
 use Rattle.syntax.specs.Levels.{most_levels}
-use Rattle.goals.specs.Goals.{Goal, Goals, one, exp, args, vals, name, binder, sum, level}
+use Rattle.goals.specs.Goals.{Goal, Goals, one, exp, args, vals, name, binder, sum}
 use Rattle.goals.specs.Machine.{levels, Verdict, misplaced, too_deep, fate}
 use Rattle.pieces.specs.declared.fault.Fault.{Fault}
 use Rattle.pieces.specs.declared.fault.Fault.TheVariants.{Misplaced, TooDeep, Memory}

@@ -1,5 +1,5 @@
 -- The tokens that a slice holds. Assumes nothing.
-use Rattle.std.specs.Prelude.{ℕ, List, [], ◌∷◌, map, Some, None, Option}
+use Rattle.std.specs.Prelude.{List, [], ◌∷◌, map, Some, None, Option}
 use Rattle.std.specs.Borrow.{Bor}
 use Rattle.tokens.specs.declared.token.Token.{Token}
 use Rattle.tokens.specs.Tokens.{Placed}

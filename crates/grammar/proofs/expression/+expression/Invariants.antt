@@ -1,6 +1,6 @@
 use Rattle.std.proofs.Common.{◌+◌, ◌*◌, length}
 use Rattle.pieces.specs.Seen.{seen}
-use Rattle.grammar.proofs.expression.+app_args_assignment_atom_block_bracket_call_cell_conditional_content_exp_group_inside_named_sum_sum_rest_term_term_rest_vals.Given as goal
+use Rattle.grammar.proofs.expression.+expression.Given as goal
 
 -- the tokens left, and then how far the callee stands below the caller
 abbrev pub decreases-app : goal.decreases-app

@@ -1,9 +1,9 @@
-use Rattle.std.proofs.Common.{refl, arith}
+use Rattle.std.proofs.Common.{refl, arith, rules}
 use Rattle.goals.specs.Goals.{sum, term, app, terms, apps}
 use Rattle.goals.proofs.Steps.{sum_opens, term_opens}
 use Rattle.pieces.specs.Seen.{seen}
-use Rattle.grammar.proofs.Steps.{first_fails, both_read, if_reads, args_more, vals_more, vals_last}
-use Rattle.grammar.proofs.expression.+app_args_assignment_atom_block_bracket_call_cell_conditional_content_exp_group_inside_named_sum_sum_rest_term_term_rest_vals.Goals as goal
+use Rattle.grammar.proofs.Steps.{atom_read, first_fails, both_read, if_reads, args_more, vals_more, vals_last}
+use Rattle.grammar.proofs.expression.+expression.Goals as goal
 
 pub args-returns-in-Ok-more : goal.args-returns-in-Ok-more
 args-returns-in-Ok-more t c =
@@ -45,3 +45,7 @@ vals-returns-in-Ok-bound_last t c =
     let head = c.in_ok-name in
     vals_last c.args.reader.end c.args.depth (seen c.args.ts) (head.name, head.mark, head.rest) (c.in_ok-e.e, c.in_ok-e.rest) c.in-Ok-bound_last.vals
     head.ensures c.in_ok-e.ensures c.in-None.ensures c.in-Ok-bound_last.ensures
+
+pub app-returns-in_default : goal.app-returns-in_default
+app-returns-in_default t c =
+    atom_read c.args.reader.end c.args.depth (seen c.args.ts) c.first.result c.atom.result c.first.ensures (search rules) c.atom.ensures
