@@ -1,10 +1,9 @@
 -- An expression begins where its first token stands. Assumes nothing.
 use Rattle.std.proofs.Common.{◌≡◌, ℕ, List, ◌∷◌, refl}
 use Rattle.tokens.specs.Tokens.{Tok, Placed}
-use Rattle.syntax.specs.Trees.{Expr, Literal, Variable, Group, Assign, Let, Bounded, Ref, Read, Call, Arith, If}
+use Rattle.syntax.specs.Trees.{Literal, Variable, Group, Assign, Let, Bounded, Ref, Read, Call, Arith, If}
 use Rattle.syntax.specs.Sorts.{at}
-use Rattle.syntax.specs.Grammar.{Spans}
-use Rattle.syntax.specs.Starts.{start, Fronted, Begins}
+use Rattle.syntax.specs.Starts.{Fronted, Begins}
 
 fronted : (p : ℕ) (t : Tok) (ts m : List Placed) → ts ≡ at p t ∷ m → Fronted ts p
 fronted p t ts m e = record { first = at p t; later = m; split = e; place = refl }

@@ -6,7 +6,7 @@ use Rattle.std.proofs.lemmas.Bool.Decides.{nat_tests}
 use Rattle.tokens.specs.Bytes.{letter, digit, tail, operator}
 use Rattle.tokens.specs.Tokens.{Tok, word, symbol, literal, identifier, binder, bound, Spells, Ends, Before, Named, spelling, sign}
 use Rattle.tokens.specs.Reading.{NoToken}
-use Rattle.tokens.specs.Refusing.{run, Unspelled, Unbegun, Unmarked, RefusedAt, RunRefused}
+use Rattle.tokens.specs.Refusing.{run, Unspelled, Unbegun, Unmarked, RunRefused}
 use Rattle.tokens.specs.declared.token.Word.{Word}
 use Rattle.tokens.specs.declared.token.Word.TheVariants.{Val, Fun, Let, In, End, If, Then, Else, Ref, Int, Div, Mod}
 use Rattle.tokens.specs.declared.token.Symbol.{Symbol}
