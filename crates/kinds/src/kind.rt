@@ -52,7 +52,7 @@ pub trait Kind: Copy {
     fn names() -> NameNumber
         ensures { result ≡ names };
 
-    // The lifetime is a parameter: a `'static` result is refused beside a law.
+    // The lifetime is a parameter, so a caller may hold the spelling as long as it likes.
     fn spelling<'a>(number: NameNumber) -> &'a [u8]
         ensures { result.now ≡ spelling number };
 
