@@ -11,7 +11,8 @@ pub(super) fn same_spelling(spelling: &[u8], sought: &[u8]) -> bool
     same_bytes(spelling, sought)
 }
 
-// The lowest number of a name with this spelling.
+// The lowest number of a name with this spelling. `Spellings::find` goes over a table in the same way: one function for both would
+// take the count and the spelling of a number from its caller, for a loop of three lines.
 pub fn find_name<K: Kind>(sought: &[u8]) -> Option<NameNumber>
     ensures number { result ≡ number_of K.Kind sought.now }
     ensures lowest { FoundAs K.Kind sought.now result }

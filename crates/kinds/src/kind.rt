@@ -46,14 +46,14 @@ pub trait Kind: Copy {
     fn height() -> Height
         ensures { result ≡ height };
 
+    // Its three parameters are those of one function, which each kind has once.
     fn operate(number: OperatorNumber, a: Self, b: Self) -> Self
         ensures { result ≡ operate number a b };
 
     fn names() -> NameNumber
         ensures { result ≡ names };
 
-    // The lifetime is a parameter, so a caller may hold the spelling as long as it likes.
-    fn spelling<'a>(number: NameNumber) -> &'a [u8]
+    fn spelling(number: NameNumber) -> &'static [u8]
         ensures { result.now ≡ spelling number };
 
     fn value(number: NameNumber) -> Self
@@ -70,13 +70,25 @@ pub trait PlainKind: Kind {
 
     const HEIGHT: Height;
 
+    ghost NAMES: { ℕ };
+
+    ghost HEIGHT: { ℕ };
+
     // `NAMES`, for code that knows the kind only by this trait.
     fn plain_names() -> NameNumber
-        ensures { (result ≡ Self.Kind.names) × (result ≤ plain_limit) };
+        ensures { (result ≡ Self.Kind.names) × (result ≤ plain_limit) }
+    {
+        Self::NAMES
+    }
 
     // `HEIGHT`, likewise.
     fn plain_height() -> Height
-        ensures { (result ≡ Self.Kind.height) × (result ≤ plain_limit) };
+        ensures { (result ≡ Self.Kind.height) × (result ≤ plain_limit) }
+    {
+        Self::HEIGHT
+    }
+
+    ghost stated: { (NAMES ≡ Self.Kind.names) × (HEIGHT ≡ Self.Kind.height) };
 
     ghost plain: { Limited plain_limit Self.Kind.names Self.Kind.height };
 

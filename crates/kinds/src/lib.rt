@@ -10,4 +10,3 @@ pub mod origin;
 pub mod pair;
 pub mod sources;
 pub mod spellings;
-mod table;

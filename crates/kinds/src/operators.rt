@@ -1,4 +1,5 @@
-// The operators by number. Those that take fewer than two values pass over the others.
+// The operators by number. Those that take fewer than two values pass over the others. They stay numbers, and are no enum: a
+// rule of the project says what each number does in every kind, also one above the highest, and an enum would take fewer.
 pub type OperatorNumber = u8;
 
 pub const MOVE: OperatorNumber = 0;

@@ -7,23 +7,21 @@ use super::kind::{Height, Kind, NameNumber, PlainKind};
 use super::operators::{ARITH, CHECK, CLOCK, DETECTOR, FIELD, MOVE, OperatorNumber};
 
 // How far a number can be relied on: a chain of three ranks.
-#[derive(Clone, Copy)]
+#[derive(Clone, Copy, Debug, PartialEq, Eq, PartialOrd, Ord)]
 pub enum Origin {
     Constant,
     Checked,
     Entered,
 }
 
-// The first number checked against the second.
+// The first number checked against the second: it counts as checked at most, unless the second itself was entered.
 fn checked_against(a: Origin, b: Origin) -> Origin
     ensures { result ≡ checked_by a b }
 {
-    if !b.at_or_below(Origin::Checked) {
-        Origin::Entered
-    } else if a.at_or_below(Origin::Checked) {
-        a
+    if b <= Origin::Checked {
+        a.min(Origin::Checked)
     } else {
-        Origin::Checked
+        Origin::Entered
     }
 }
 
@@ -55,19 +53,15 @@ impl Kind for Origin {
     }
 
     fn at_or_below(self, other: Origin) -> bool {
-        self.rank() <= other.rank()
+        self <= other
     }
 
     fn join(self, other: Origin) -> Origin {
-        if self.at_or_below(other) { other } else { self }
+        self.max(other)
     }
 
     fn rank(self) -> Height {
-        match self {
-            Origin::Constant => 0,
-            Origin::Checked => 1,
-            Origin::Entered => 2,
-        }
+        self as Height
     }
 
     fn height() -> Height {
@@ -89,7 +83,7 @@ impl Kind for Origin {
         Self::NAMES
     }
 
-    fn spelling<'a>(number: NameNumber) -> &'a [u8] {
+    fn spelling(number: NameNumber) -> &'static [u8] {
         match number {
             0 => b"checked",
             1 => b"entered",
@@ -111,15 +105,13 @@ impl PlainKind for Origin {
 
     const HEIGHT: Height = 2;
 
+    ghost NAMES = { 2 };
+
+    ghost HEIGHT = { 2 };
+
+    ghost stated = { Prim.search rules };
+
     ghost plain = { Prim.search rules };
 
     ghost distinct = { Prim.search rules };
-
-    fn plain_names() -> NameNumber {
-        Self::NAMES
-    }
-
-    fn plain_height() -> Height {
-        Self::HEIGHT
-    }
 }

@@ -72,7 +72,7 @@ impl<A: PlainKind, B: PlainKind> Kind for Pair<A, B> {
         A::plain_names() + B::plain_names()
     }
 
-    fn spelling<'a>(number: NameNumber) -> &'a [u8] {
+    fn spelling(number: NameNumber) -> &'static [u8] {
         let left_names = A::plain_names();
         if number < left_names {
             A::spelling(number)

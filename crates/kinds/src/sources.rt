@@ -46,7 +46,7 @@ impl Kind for Sources {
         EMPTY
     }
 
-    // `&` and `|` have no branch, so the proof has one way.
+    // Inclusion, which no derive gives. `&` and `|` have no branch, so the proof has one way.
     fn at_or_below(self, other: Sources) -> bool {
         (!self.form | other.form) & (!self.looped | other.looped) & (!self.clock | other.clock)
     }
@@ -82,7 +82,7 @@ impl Kind for Sources {
         Self::NAMES
     }
 
-    fn spelling<'a>(number: NameNumber) -> &'a [u8] {
+    fn spelling(number: NameNumber) -> &'static [u8] {
         match number {
             0 => b"form",
             1 => b"loop",
@@ -115,15 +115,13 @@ impl PlainKind for Sources {
 
     const HEIGHT: Height = 3;
 
+    ghost NAMES = { 3 };
+
+    ghost HEIGHT = { 3 };
+
+    ghost stated = { Prim.search rules };
+
     ghost plain = { Prim.search rules };
 
     ghost distinct = { Prim.search rules };
-
-    fn plain_names() -> NameNumber {
-        Self::NAMES
-    }
-
-    fn plain_height() -> Height {
-        Self::HEIGHT
-    }
 }

@@ -1,47 +1,28 @@
-ghost use Rattle.std.specs.Prelude.{◌≡◌, ℕ, ◌≤◌, List, length, Decides};
-ghost use Rattle.kinds.specs.Find.{SameSpelling, number_of};
-ghost use Rattle.kinds.specs.Laws.{longest_spelling};
-ghost use Rattle.kinds.specs.Tables.{Copies, text_of, number_in};
+ghost use Rattle.std.specs.Prelude.{◌≡◌, ℕ, List};
+ghost use Rattle.kinds.specs.Find.{number_of};
+ghost use Rattle.kinds.specs.Tables.{Copies, number_in};
 
 use super::find::same_spelling;
 use super::kind::{Kind, NameNumber};
-pub use super::table::Spellings;
-use super::table::{LONGEST, MOST_NAMES, Word};
+use arrayvec::ArrayVec;
 
-const NO_WORD: Word = Word {
-    bytes: [0; LONGEST],
-    len: 0,
-};
+// The most names that a kind may have.
+const MOST_NAMES: usize = 200;
 
-fn copy_word(spelling: &[u8]) -> Word
-    requires { length spelling.now ≤ longest_spelling }
-    ensures { text_of result ≡ spelling.now }
-{
-    let mut bytes = [0; LONGEST];
-    bytes[0..spelling.len()].copy_from_slice(spelling);
-    Word {
-        bytes,
-        len: spelling.len() as u8,
-    }
+// The spellings of a kind's names by number, for code that does not know the kind.
+#[derive(Drop)]
+pub struct Spellings {
+    words: ArrayVec<&'static [u8], MOST_NAMES>,
 }
 
 fn copy_spellings<K: Kind>() -> Spellings
     ensures { Copies K.Kind result }
 {
-    let mut words = [NO_WORD; MOST_NAMES];
-    let count = K::names();
-    for number in 0..count {
-        words[number as usize] = copy_word(K::spelling(number));
+    let mut words = ArrayVec::new();
+    for number in 0..K::names() {
+        words.push(K::spelling(number));
     }
-    Spellings { words, count }
-}
-
-impl Word {
-    fn is(&self, sought: &[u8]) -> bool
-        ensures { Decides result (SameSpelling (text_of self.now) sought.now) }
-    {
-        same_spelling(&self.bytes[0..self.len as usize], sought)
-    }
+    Spellings { words }
 }
 
 impl Spellings {
@@ -54,12 +35,13 @@ impl Spellings {
     }
 
     // The lowest number with this spelling.
+    #[tactic(auto, using(crate::proofs::Copied::found_in, crate::proofs::Copied::not_here, crate::proofs::Copied::none_in))]
     pub fn find(&self, sought: &[u8]) -> Option<NameNumber>
         ensures { result ≡ number_in self.now sought.now }
     {
-        for number in 0..self.count {
-            if self.words[number as usize].is(sought) {
-                return Some(number);
+        for (number, spelling) in self.words.iter().enumerate() {
+            if same_spelling(spelling, sought) {
+                return Some(number as NameNumber);
             }
         }
         None

@@ -62,7 +62,7 @@ impl Kind for Only {
         Self::NAMES
     }
 
-    fn spelling<'a>(number: NameNumber) -> &'a [u8] {
+    fn spelling(number: NameNumber) -> &'static [u8] {
         b""
     }
 
@@ -76,15 +76,13 @@ impl PlainKind for Only {
 
     const HEIGHT: Height = 0;
 
+    ghost NAMES = { 0 };
+
+    ghost HEIGHT = { 0 };
+
+    ghost stated = { Prim.search rules };
+
     ghost plain = { Prim.search rules };
 
     ghost distinct = { Prim.search rules };
-
-    fn plain_names() -> NameNumber {
-        Self::NAMES
-    }
-
-    fn plain_height() -> Height {
-        Self::HEIGHT
-    }
 }

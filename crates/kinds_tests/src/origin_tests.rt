@@ -22,11 +22,13 @@ const RESULTS: [(OperatorNumber, Ranks); 9] = [
 ];
 
 fn gives(rt: &impl Abort, number: OperatorNumber, results: Ranks) {
-    for a in 0..3 {
-        for b in 0..3 {
-            let result = Origin::operate(number, origin(a), origin(b));
-            let expected = origin(results[a as usize][b as usize]);
-            assert!(rt; same(result, expected), "operator {number} on {a} and {b}");
+    for (a, row) in results.iter().enumerate() {
+        for (b, rank) in row.iter().enumerate() {
+            let result = Origin::operate(number, origin(a as u8), origin(b as u8));
+            assert!(rt;
+                same(result, origin(*rank)),
+                "operator {number} on {a} and {b}"
+            );
         }
     }
 }
