@@ -1,5 +1,5 @@
 -- The number of each refusal, and the values returned with it. Assumes nothing.
-use Rattle.std.specs.Prelude.{ℕ, List, [], ◌∷◌, Some, None, Option}
+use Rattle.std.specs.Prelude.{ℕ, List, [], ◌∷◌, ◌++◌, Some, None, Option, codes, decimal}
 use Rattle.refusals.specs.declared.refusal.Limit.{Limit}
 use Rattle.refusals.specs.declared.refusal.Limit.TheVariants.{Variables, Flows, Bounds, Binders, Text}
 use Rattle.refusals.specs.declared.refusal.Refusal.{Refusal}
@@ -44,3 +44,15 @@ values_of (NoLevel depth) = depth ∷ []
 values_of (TooShort needed) = needed ∷ []
 values_of NoneBroken = 0 ∷ []
 values_of Memory = []
+
+-- a refusal as it is printed: `refused`, its number, and its values
+abbrev pub shown_number : Option ℕ → List ℕ
+shown_number None = codes "memory"
+shown_number (Some n) = decimal n
+
+abbrev pub shown_values : List ℕ → List ℕ
+shown_values [] = []
+shown_values (v ∷ vs) = codes " " ++ (decimal v ++ shown_values vs)
+
+abbrev pub shown : Refusal → List ℕ
+shown r = codes "refused " ++ (shown_number (number_of r) ++ shown_values (values_of r))

@@ -1,4 +1,5 @@
 #![tactic(auto)]
-// Every cause of a refusal, once: its number, and the values that are returned with it. A refusal changes nothing.
+// Every cause of a refusal, once: its number, the values that are returned with it, and how it is printed. A refusal changes nothing.
 pub mod numbers;
+mod printing;
 pub mod refusal;

@@ -1,15 +1,15 @@
 // What a project holds at most of; passing a limit is a refusal.
-#[derive(Clone, Copy, Debug, PartialEq)]
+#[derive(Clone, Copy, Debug, PartialEq, Eq)]
 pub enum Limit {
-    Variables,
-    Flows,
-    Bounds,
-    Binders,
-    Text,
+    Variables = 1,
+    Flows = 2,
+    Bounds = 3,
+    Binders = 4,
+    Text = 5,
 }
 
 // Why a call is refused. Places count bytes of the given text from 0.
-#[derive(Clone, Copy, Debug, PartialEq)]
+#[derive(Clone, Copy, Debug, PartialEq, Eq)]
 pub enum Refusal {
     // the text is longer than a declaration may be
     TooLong,

@@ -13,13 +13,6 @@ differ true no' = absurd (no' refl)
 differ false no' = refl
 
 module _ (ws : List Word) (i : ℕ) (d : Word) (s t : List ℕ) (inside : i < length ws) (spelled : t ≡ spelling (get_or ws i d)) where
-  pub word_found : s ≡ t → first_word (drop i ws) s ≡ word (get_or ws i d)
-  word_found same =
-      at_drop_more (λ l. first_word l s) ws i d inside ∙ cond-true _ _ _ ((bytes_eq-Decides s (spelling (get_or ws i d))).1 (same ∙ spelled))
-
   pub word_passed : (s ≡ t → ⊥) → first_word (drop i ws) s ≡ first_word (drop (i + 1) ws) s
   word_passed differs =
       at_drop_more (λ l. first_word l s) ws i d inside ∙ cond-false _ _ _ (differ (bytes_eq s (spelling (get_or ws i d))) (λ same. differs ((bytes_eq-Decides s (spelling (get_or ws i d))).0 same ∙ sym spelled)))
-
-pub words_passed : (ws : List Word) (i : ℕ) (s : List ℕ) → length ws ≤ i → first_word (drop i ws) s ≡ identifier s
-words_passed ws i s past = at_drop_all (λ l. first_word l s) ws i past

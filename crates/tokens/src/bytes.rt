@@ -3,7 +3,8 @@ ghost use Rattle.std.specs.List.{prefix_len};
 ghost use Rattle.tokens.specs.Bytes.{blank};
 ghost use Rattle.tokens.specs.Classes.{in_class};
 
-#[derive(Clone, Copy)]
+// The classes are no closures, since contracts cite them by name.
+#[derive(Clone, Copy, Debug, PartialEq, Eq)]
 pub enum Class {
     // a letter
     Letter,
@@ -20,10 +21,7 @@ pub enum Class {
 pub fn is_blank(b: u8) -> bool
     ensures { result ≡ blank b }
 {
-    match b {
-        b' ' | b'\t' | b'\n' | b'\r' => true,
-        _ => false,
-    }
+    matches!(b, b' ' | b'\t' | b'\n' | b'\r')
 }
 
 impl Class {
@@ -46,9 +44,5 @@ pub fn run_len(bytes: &[u8], class: Class) -> usize
     ensures run { result ≡ prefix_len (in_class class) bytes.now }
     ensures within { result ≤ length bytes.now }
 {
-    let mut n = 0;
-    while n < bytes.len() && class.has(bytes[n]) {
-        n += 1;
-    }
-    n
+    bytes.iter().take_while(|b| class.has(**b)).count()
 }

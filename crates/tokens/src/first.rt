@@ -1,9 +1,11 @@
-ghost use Rattle.std.specs.Prelude.{◌≡◌, drop};
+ghost use Rattle.std.specs.Prelude.{◌≡◌, ◌+◌, length, take, drop, Some};
 ghost use Rattle.std.specs.List.{prefix_len};
+ghost use Rattle.std.specs.Option.{option_map};
 ghost use Rattle.tokens.specs.Meanings.{meaning};
 ghost use Rattle.tokens.specs.Tokens.{symbol as symbol_token};
 ghost use Rattle.tokens.specs.Finding.{word_of, operator_of, sign_of, word_run, digit_run, operator_run, closes, binder_mark, bound_mark, opened, token_at, sized};
-ghost use Rattle.tokens.specs.Found.{found_as};
+ghost use Rattle.tokens.specs.Classes.{in_class};
+ghost use Rattle.tokens.specs.Found.{found_as, enclosed};
 ghost use Rattle.tokens.specs.Bytes.{letter, digit, tail, operator, marking};
 
 use super::bytes::{Class, run_len};
@@ -28,12 +30,13 @@ const WORDS: [Word; 12] = [
     Word::Mod,
 ];
 
-// A reserved word, or else an identifier.
+// A reserved word, or else an identifier. A `match` of the bytes against the twelve words was tried: its last arm is reached in some
+// thirty ways, and the proof of that arm did not close.
 fn word_of<'a>(run: &'a [u8]) -> TokenKind<'a>
     ensures { meaning result ≡ word_of run.now }
 {
     for word in WORDS {
-        if same_bytes(run, word.text()) {
+        if same_bytes(run, word.text().as_bytes()) {
             return TokenKind::Word(word);
         }
     }
@@ -73,40 +76,41 @@ pub struct Found<'a> {
     pub kind: TokenKind<'a>,
 }
 
+// The longest front whose bytes are of the class.
+fn run<'a>(text: &'a [u8], class: Class) -> &'a [u8]
+    ensures run { result.now ≡ take (prefix_len (in_class class) text.now) text.now }
+    ensures len { length result.now ≡ prefix_len (in_class class) text.now }
+{
+    &text[0..run_len(text, class)]
+}
+
 fn word<'a>(text: &'a [u8]) -> Option<Found<'a>>
     ensures { found_as result ≡ word_run (prefix_len tail text.now) text.now }
 {
-    let len = run_len(text, Class::Tail);
-    if !is_short(len) {
-        return None;
-    }
-    Some(Found {
-        len,
-        kind: word_of(&text[0..len]),
+    let run = run(text, Class::Tail);
+    is_short(run.len()).then_some(Found {
+        len: run.len(),
+        kind: word_of(run),
     })
 }
 
 fn literal<'a>(text: &'a [u8]) -> Option<Found<'a>>
     ensures { found_as result ≡ digit_run (prefix_len digit text.now) text.now }
 {
-    let len = run_len(text, Class::Digit);
-    if len > LONGEST_LITERAL {
-        return None;
-    }
-    Some(Found {
-        len,
-        kind: TokenKind::Literal(&text[0..len]),
+    let digits = run(text, Class::Digit);
+    (digits.len() <= LONGEST_LITERAL).then_some(Found {
+        len: digits.len(),
+        kind: TokenKind::Literal(digits),
     })
 }
 
 fn operator<'a>(text: &'a [u8]) -> Option<Found<'a>>
     ensures { found_as result ≡ operator_run (prefix_len operator text.now) text.now }
 {
-    let len = run_len(text, Class::Operator);
-    let symbol = operator_of(&text[0..len])?;
+    let run = run(text, Class::Operator);
     Some(Found {
-        len,
-        kind: TokenKind::Symbol(symbol),
+        len: run.len(),
+        kind: TokenKind::Symbol(operator_of(run)?),
     })
 }
 
@@ -114,48 +118,42 @@ fn operator<'a>(text: &'a [u8]) -> Option<Found<'a>>
 fn ends_mark(text: &[u8]) -> bool
     ensures { result ≡ closes text.now }
 {
-    match text {
-        [b'*', b')', ..] => true,
-        _ => false,
+    matches!(text, [b'*', b')', ..])
+}
+
+// What stands in a mark: the longest front of the class, where `*)` follows it.
+fn marked<'a>(inner: &'a [u8], class: Class) -> Option<&'a [u8]>
+    ensures { option_map (λ s. s.now) result ≡ enclosed (in_class class) inner.now }
+{
+    let run = run(inner, class);
+    ends_mark(&inner[run.len()..]).then_some(run)
+}
+
+// A mark, with the five bytes round what stands in it.
+fn mark<'a>(inner: &'a [u8], mark: Mark<'a>) -> Found<'a>
+    ensures { found_as (Some result) ≡ sized (length inner.now + 5) (meaning (TokenKind.Mark mark.entry)) }
+{
+    Found {
+        len: inner.len() + 5,
+        kind: TokenKind::Mark(mark),
     }
 }
 
-// The mark that `(*$` opens.
-fn binder<'a>(text: &'a [u8]) -> Option<Found<'a>>
-    ensures { found_as result ≡ binder_mark (prefix_len marking (drop 3 text.now)) (drop 3 text.now) }
+// The mark that `(*$` opens, from behind that. `bound` differs in the class, the test and the case: as one function both would need
+// three parameters for their two lines.
+fn binder<'a>(inner: &'a [u8]) -> Option<Found<'a>>
+    ensures { found_as result ≡ binder_mark (prefix_len marking inner.now) inner.now }
 {
-    let [_, _, _, inner @ ..] = text else {
-        return None;
-    };
-    let len = run_len(inner, Class::Marking);
-    let groups = &inner[0..len];
-    if ends_mark(&inner[len..]) && is_grouped(groups) {
-        Some(Found {
-            len: len + 5,
-            kind: TokenKind::Mark(Mark::Binder(groups)),
-        })
-    } else {
-        None
-    }
+    let groups = marked(inner, Class::Marking)?;
+    is_grouped(groups).then_some(mark(groups, Mark::Binder(groups)))
 }
 
-// The mark that `(*!` opens.
-fn bound<'a>(text: &'a [u8]) -> Option<Found<'a>>
-    ensures { found_as result ≡ bound_mark (prefix_len letter (drop 3 text.now)) (drop 3 text.now) }
+// The mark that `(*!` opens, from behind that.
+fn bound<'a>(inner: &'a [u8]) -> Option<Found<'a>>
+    ensures { found_as result ≡ bound_mark (prefix_len letter inner.now) inner.now }
 {
-    let [_, _, _, inner @ ..] = text else {
-        return None;
-    };
-    let len = run_len(inner, Class::Letter);
-    let name = &inner[0..len];
-    if ends_mark(&inner[len..]) && is_name(name) {
-        Some(Found {
-            len: len + 5,
-            kind: TokenKind::Mark(Mark::Bound(name)),
-        })
-    } else {
-        None
-    }
+    let name = marked(inner, Class::Letter)?;
+    is_name(name).then_some(mark(name, Mark::Bound(name)))
 }
 
 // What stands at a `(`: the symbol, or a mark where a `*` follows.
@@ -163,8 +161,8 @@ fn open<'a>(text: &'a [u8]) -> Option<Found<'a>>
     ensures { found_as result ≡ opened (drop 1 text.now) }
 {
     match text {
-        [_, b'*', b'$', ..] => binder(text),
-        [_, b'*', b'!', ..] => bound(text),
+        [_, b'*', b'$', inner @ ..] => binder(inner),
+        [_, b'*', b'!', inner @ ..] => bound(inner),
         [_, b'*', ..] => None,
         _ => symbol(Symbol::Open),
     }

@@ -1,10 +1,10 @@
-// Theorems about the definitions that the contract of `lex` cites. What these functions answer means nothing.
+// Theorems about the definitions that the contract of `lex` cites. The functions do nothing.
 ghost use Rattle.tokens.specs.Local.{Stays, Joins, Splits, Moves, MovesBack, Marks, Inserts, Replaces};
 ghost use Rattle.tokens.specs.Refusing.{RunRefused};
 ghost use Rattle.tokens.specs.Examples.{Examples};
 
 // How a part of a text reads does not depend on the rest.
-pub fn lexer_local() -> u8
+pub fn lexer_local()
     ensures stays { Stays }
     ensures joins { Joins }
     ensures splits { Splits }
@@ -13,19 +13,13 @@ pub fn lexer_local() -> u8
     ensures marks { Marks }
     ensures inserts { Inserts }
     ensures replaces { Replaces }
-{
-    0
-}
+{}
 
 // Where a text is refused the longest run of bytes of a class is as a whole no token.
-pub fn lexer_refuses() -> u8
+pub fn lexer_refuses()
     ensures { RunRefused }
-{
-    0
-}
+{}
 
-pub fn lexer_examples() -> u8
+pub fn lexer_examples()
     ensures { Examples }
-{
-    0
-}
+{}

@@ -22,6 +22,7 @@ pub fn lex<'a>(heap: Global, text: &'a [u8]) -> Result<Vec<Token<'a>>, Refusal>
     }
     let mut tokens = Vec::new(heap);
     let mut place = 0;
+    // The place is what a token holds, and a step is as long as a token, so no iterator counts it.
     while place < text.len() {
         if is_blank(text[place]) {
             place += 1;

@@ -1,9 +1,10 @@
-ghost use Rattle.std.specs.Prelude.{◌≡◌, ◌<◌, ◌∷◌, map, length, IfSome, IfOk, nat_le};
+ghost use Rattle.std.specs.Prelude.{◌≡◌, ◌<◌, ◌≤◌, Decides, ◌==◌, ◌∷◌, map, length, IfSome, IfOk, nat_le};
+ghost use Rattle.std.specs.List.{list_all, position};
 ghost use Rattle.tokens.specs.Bytes.{byte};
 ghost use Rattle.tokens.specs.Limits.{longest_name};
-ghost use Rattle.tokens.specs.Marks.{all, name, names_of, groups_of, grouped, parts, further};
+ghost use Rattle.tokens.specs.Marks.{name, names_of, groups_of, grouped, parts, further};
 
-use super::bytes::{Class, run_len};
+use super::bytes::Class;
 use std::alloc::{AllocError, Global};
 
 // The longest identifier, and the longest name in a mark.
@@ -16,23 +17,28 @@ pub struct Cut<'a> {
     pub rest: Option<&'a [u8]>,
 }
 
-// Cuts at the first `sep`: with `/` a mark is gone through group by group, and with `,` a group name by name.
+// Where the first `sep` is.
+fn place_of(bytes: &[u8], sep: u8) -> Option<usize>
+    ensures { result ≡ position (λ b. b == sep) bytes.now }
+{
+    bytes.iter().position(|b| *b == sep)
+}
+
+// Cuts at the first `sep`: with `/` a mark is gone through group by group, and with `,` a group name by name. For a caller that
+// wants one part at a time and no memory.
 pub fn first_part<'a>(bytes: &'a [u8], sep: u8) -> Cut<'a>
     ensures parts { parts sep bytes.now ≡ result.part.now ∷ further sep result.rest }
     ensures shorter { IfSome result.rest (λ rest. length rest.now < length bytes.now) }
 {
-    let mut n = 0;
-    while n < bytes.len() && bytes[n] != sep {
-        n += 1;
-    }
-    let part = &bytes[0..n];
-    if n < bytes.len() {
-        Cut {
-            part,
+    match place_of(bytes, sep) {
+        Some(n) => Cut {
+            part: &bytes[0..n],
             rest: Some(&bytes[n + 1..]),
-        }
-    } else {
-        Cut { part, rest: None }
+        },
+        None => Cut {
+            part: bytes,
+            rest: None,
+        },
     }
 }
 
@@ -43,67 +49,45 @@ pub(super) fn is_short(len: usize) -> bool
     len <= LONGEST_NAME
 }
 
+// Whether a name in a mark may have so many letters.
+fn is_name_len(len: usize) -> bool
+    ensures { Decides result ((1 ≤ len) × (len ≤ longest_name)) }
+{
+    (1..=LONGEST_NAME).contains(&len)
+}
+
 pub(super) fn is_name(bytes: &[u8]) -> bool
     ensures { result ≡ name bytes.now }
 {
-    let len = bytes.len();
-    if len == 0 || !is_short(len) {
-        return false;
-    }
-    run_len(bytes, Class::Letter) == len
+    is_name_len(bytes.len()) && bytes.iter().all(|b| Class::Letter.has(*b))
 }
 
 // Whether a group is empty or names joined by `,`.
 fn is_group(group: &[u8]) -> bool
-    ensures { result ≡ all name (names_of group.now) }
+    ensures { result ≡ list_all name (names_of group.now) }
 {
-    if group.is_empty() {
-        return true;
-    }
-    let mut text = group;
-    loop {
-        let cut = first_part(text, b',');
-        if !is_name(cut.part) {
-            return false;
-        }
-        match cut.rest {
-            Some(rest) => text = rest,
-            None => return true,
-        }
-    }
+    group.is_empty() || group.split(|b| *b == b',').all(is_name)
 }
 
 // Whether a text is groups joined by `/`.
 pub(super) fn is_grouped(mark: &[u8]) -> bool
     ensures { result ≡ grouped mark.now }
 {
-    let mut text = mark;
-    loop {
-        let cut = first_part(text, b'/');
-        if !is_group(cut.part) {
-            return false;
-        }
-        match cut.rest {
-            Some(rest) => text = rest,
-            None => return true,
-        }
-    }
+    mark.split(|b| *b == b'/').all(is_group)
 }
 
 // The parts between the bytes `sep`.
 fn split<'a>(heap: Global, bytes: &'a [u8], sep: u8) -> Result<Vec<&'a [u8]>, AllocError>
     ensures { IfOk result (λ v. map (λ s. s.now) v.items ≡ parts sep bytes.now) }
 {
-    let mut all = Vec::new(heap);
-    let mut text = bytes;
-    loop {
-        let cut = first_part(text, sep);
-        all.push(cut.part)?;
-        match cut.rest {
-            Some(rest) => text = rest,
-            None => return Ok(all),
-        }
-    }
+    bytes.split(|b| *b == sep).collect(heap)
+}
+
+// How many parts there are between the bytes `sep`.
+fn part_count(bytes: &[u8], sep: u8) -> usize
+    ensures { result ≡ length (parts sep bytes.now) }
+{
+    bytes.split(|b| *b == sep).count()
 }
 
 // The groups of a binder mark, in order.
@@ -127,11 +111,5 @@ pub fn names<'a>(heap: Global, group: &'a [u8]) -> Result<Vec<&'a [u8]>, AllocEr
 pub fn group_count(mark: &[u8]) -> usize
     ensures { result ≡ length (groups_of mark.now) }
 {
-    let mut count = 1;
-    let mut text = mark;
-    while let Some(rest) = first_part(text, b'/').rest {
-        count += 1;
-        text = rest;
-    }
-    count
+    part_count(mark, b'/')
 }

@@ -1,48 +1,65 @@
-ghost use Rattle.std.specs.Prelude.{◌≡◌};
+ghost use Rattle.std.specs.Prelude.{◌≡◌, Some};
 ghost use Rattle.tokens.specs.Tokens.{spelling, sign};
 
 use super::token::{Symbol, Word};
+use std::fmt;
 
 impl Word {
-    // Its bytes.
-    pub fn text<'a>(self) -> &'a [u8]
+    // How it is written.
+    pub fn text(self) -> &'static str
         ensures { result.now ≡ spelling self }
     {
         match self {
-            Word::Val => b"val",
-            Word::Fun => b"fun",
-            Word::Let => b"let",
-            Word::In => b"in",
-            Word::End => b"end",
-            Word::If => b"if",
-            Word::Then => b"then",
-            Word::Else => b"else",
-            Word::Ref => b"ref",
-            Word::Int => b"int",
-            Word::Div => b"div",
-            Word::Mod => b"mod",
+            Word::Val => "val",
+            Word::Fun => "fun",
+            Word::Let => "let",
+            Word::In => "in",
+            Word::End => "end",
+            Word::If => "if",
+            Word::Then => "then",
+            Word::Else => "else",
+            Word::Ref => "ref",
+            Word::Int => "int",
+            Word::Div => "div",
+            Word::Mod => "mod",
         }
     }
 }
 
 impl Symbol {
-    // Its bytes.
-    pub fn text<'a>(self) -> &'a [u8]
+    // How it is written.
+    pub fn text(self) -> &'static str
         ensures { result.now ≡ sign self }
     {
         match self {
-            Symbol::Bang => b"!",
-            Symbol::Plus => b"+",
-            Symbol::Minus => b"-",
-            Symbol::Star => b"*",
-            Symbol::Less => b"<",
-            Symbol::Colon => b":",
-            Symbol::Equals => b"=",
-            Symbol::Assign => b":=",
-            Symbol::Open => b"(",
-            Symbol::Close => b")",
-            Symbol::Comma => b",",
-            Symbol::Semicolon => b";",
+            Symbol::Bang => "!",
+            Symbol::Plus => "+",
+            Symbol::Minus => "-",
+            Symbol::Star => "*",
+            Symbol::Less => "<",
+            Symbol::Colon => ":",
+            Symbol::Equals => "=",
+            Symbol::Assign => ":=",
+            Symbol::Open => "(",
+            Symbol::Close => ")",
+            Symbol::Comma => ",",
+            Symbol::Semicolon => ";",
         }
+    }
+}
+
+impl fmt::Display for Word {
+    ghost output = { λ w. Some (spelling w) };
+
+    fn fmt<W: fmt::Write>(&self, f: &mut fmt::Formatter<W>) -> fmt::Result {
+        f.write_str(self.text())
+    }
+}
+
+impl fmt::Display for Symbol {
+    ghost output = { λ y. Some (sign y) };
+
+    fn fmt<W: fmt::Write>(&self, f: &mut fmt::Formatter<W>) -> fmt::Result {
+        f.write_str(self.text())
     }
 }

@@ -1,5 +1,5 @@
 // The reserved words.
-#[derive(Clone, Copy, Debug, PartialEq)]
+#[derive(Clone, Copy, Debug, PartialEq, Eq)]
 pub enum Word {
     Val,
     Fun,
@@ -15,7 +15,7 @@ pub enum Word {
     Mod,
 }
 
-#[derive(Clone, Copy, Debug, PartialEq)]
+#[derive(Clone, Copy, Debug, PartialEq, Eq)]
 pub enum Symbol {
     Bang,
     Plus,
@@ -32,14 +32,14 @@ pub enum Symbol {
 }
 
 // What stands between `(*$` or `(*!` and `*)`.
-#[derive(Clone, Copy, Debug)]
+#[derive(Clone, Copy, Debug, PartialEq, Eq)]
 pub enum Mark<'a> {
     Binder(&'a [u8]),
     Bound(&'a [u8]),
 }
 
 // What a token is. Digits, names and marks are parts of the text.
-#[derive(Clone, Copy, Debug)]
+#[derive(Clone, Copy, Debug, PartialEq, Eq)]
 pub enum TokenKind<'a> {
     Word(Word),
     Symbol(Symbol),
@@ -49,7 +49,7 @@ pub enum TokenKind<'a> {
 }
 
 // The place counts bytes from the start of the text.
-#[derive(Clone, Copy, Debug)]
+#[derive(Clone, Copy, Debug, PartialEq, Eq)]
 pub struct Token<'a> {
     pub place: usize,
     pub kind: TokenKind<'a>,

@@ -1,5 +1,8 @@
 use refusals::numbers::LONGEST;
 use refusals::refusal::{Limit, Refusal};
+use std::alloc::Global;
+use std::process::Abort;
+use std::test::Fail;
 
 // A refusal, its number, and the one value that is returned with it.
 const ONE_VALUE: [(Refusal, u8, usize); 15] = [
@@ -39,4 +42,19 @@ fn a_broken_bound_is_told_with_the_evaluations(rt: HostRuntime) {
 fn want_of_memory_has_neither_number_nor_value(rt: HostRuntime) {
     assert_eq!(rt; Refusal::Memory.number(), None);
     assert_eq!(rt; Refusal::Memory.values(), (None, None));
+}
+
+fn check_printed(rt: &impl Abort, heap: Global, refusal: Refusal, line: &str) -> Result<(), Fail> {
+    assert_eq!(rt; refusal.to_string(heap)?.as_str(), line);
+    Ok(())
+}
+
+#[test]
+fn a_refusal_is_printed_with_its_number_and_values(rt: HostRuntime) -> Result<(), Fail> {
+    check_printed(&rt, rt.alloc(), Refusal::TooLong, "refused 1 4096")?;
+    check_printed(&rt, rt.alloc(), Refusal::NoToken(8), "refused 2 8")?;
+    check_printed(&rt, rt.alloc(), Refusal::Passed(Limit::Text), "refused 7 5")?;
+    check_printed(&rt, rt.alloc(), Refusal::Broken(0, 12), "refused 8 0 12")?;
+    check_printed(&rt, rt.alloc(), Refusal::NoneBroken, "refused 11 0")?;
+    check_printed(&rt, rt.alloc(), Refusal::Memory, "refused memory")
 }

@@ -1,36 +1,18 @@
 // The answer of `lex` as one line of text.
-use refusals::refusal::Refusal;
 use std::alloc::Global;
 use std::process::Abort;
 use std::str::from_utf8;
 use std::test::Fail;
 use tokens::lex::lex;
-use tokens::token::{Mark, Symbol, Token, TokenKind};
+use tokens::token::{Mark, Token, TokenKind};
 
 // A text, and the line that shows how it is read.
 pub type Case<'a> = (&'a [u8], &'a str);
 
-fn spelling<'a>(symbol: Symbol) -> &'a str {
-    match symbol {
-        Symbol::Bang => "!",
-        Symbol::Plus => "+",
-        Symbol::Minus => "-",
-        Symbol::Star => "*",
-        Symbol::Less => "<",
-        Symbol::Colon => ":",
-        Symbol::Equals => "=",
-        Symbol::Assign => ":=",
-        Symbol::Open => "(",
-        Symbol::Close => ")",
-        Symbol::Comma => ",",
-        Symbol::Semicolon => ";",
-    }
-}
-
 fn show_kind(heap: Global, kind: TokenKind) -> Result<String, Fail> {
     let text = match kind {
         TokenKind::Word(word) => format!(in heap; "{word:?}")?,
-        TokenKind::Symbol(symbol) => String::from_str(heap, spelling(symbol))?,
+        TokenKind::Symbol(symbol) => symbol.to_string(heap)?,
         TokenKind::Literal(digits) => String::from_str(heap, from_utf8(digits)?)?,
         TokenKind::Identifier(name) => String::from_str(heap, from_utf8(name)?)?,
         TokenKind::Mark(Mark::Binder(groups)) => format!(in heap; "(*${}*)", from_utf8(groups)?)?,
@@ -52,19 +34,12 @@ fn show_tokens(heap: Global, tokens: &[Token]) -> Result<String, Fail> {
     Ok(line)
 }
 
-// Want of memory, which has no number, becomes an error.
-fn show_refusal(heap: Global, refusal: Refusal) -> Result<String, Fail> {
-    let number = refusal.number().ok_or("want of memory")?;
-    let value = refusal.values().0.ok_or("no value")?;
-    Ok(format!(in heap; "refused {number} {value}")?)
-}
-
-// Each token as its place and its spelling, a reserved word with a capital: `0:Val 4:x 6:= 8:7`. A refusal as its number
-// and value: `refused 2 8`.
+// Each token as its place and its spelling, a reserved word with a capital: `0:Val 4:x 6:= 8:7`. A refusal as it is
+// printed, with its number and value: `refused 2 8`.
 pub fn shown(heap: Global, text: &[u8]) -> Result<String, Fail> {
     match lex(heap, text) {
         Ok(tokens) => show_tokens(heap, &tokens),
-        Err(refusal) => show_refusal(heap, refusal),
+        Err(refusal) => Ok(refusal.to_string(heap)?),
     }
 }
 

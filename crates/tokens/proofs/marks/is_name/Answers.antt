@@ -1,13 +1,12 @@
-use Rattle.std.proofs.Common.{◌≤◌, eqb, length, sym, ap, ◌∙◌, arith}
-use Rattle.std.proofs.lemmas.Bool.{leb-true}
+use Rattle.std.proofs.Common.{sym, refl, ◌∙◌, rules, tests}
+use Rattle.std.proofs.lemmas.Iterator.{YieldsList-from_slice}
+use Rattle.std.proofs.lemmas.Iterator.Search.{all_from_yields_List}
 use Rattle.tokens.specs.Bytes.{letter}
-use Rattle.tokens.specs.Limits.{longest_name}
-use Rattle.tokens.proofs.Runs.{all_leading, short_name}
+use Rattle.tokens.proofs.Runs.{short_name}
 use Rattle.tokens.proofs.marks.is_name.Goals as goal
 
-pub returns : goal.returns
-returns c =
-    let bytes = c.args.bytes.now in
-    let some : 1 ≤ length bytes = omega (arith, c.if-len-eq0.false) in
-    ap (λ n. eqb n (length bytes)) c.run_len.ensures.run ∙ all_leading letter bytes
-    ∙ sym (short_name bytes some (leb-true (length bytes) longest_name (sym c.if-not-is_short.ensures)))
+pub returns-then-is_name_len : goal.returns-then-is_name_len
+returns-then-is_name_len c =
+    let letters = all_from_yields_List letter _ _ _ c.all.ensures.ran (YieldsList-from_slice c.args.bytes.now cc) (λ x b q k. search (rules, tests)) in
+    let fits = c.if-is_name_len.ensures.0 refl in
+    letters ∙ sym (short_name c.args.bytes.now fits.0 fits.1)
