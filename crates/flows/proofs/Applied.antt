@@ -1,6 +1,6 @@
 -- What applying a flow changes, and what a run keeps of its shape. Assumes nothing.
 use Rattle.std.proofs.Common.{◌≡◌, ℕ, ◌<◌, true, false, eqb, List, ◌∷◌, ◌++◌, length, Some, None, Option, sym, refl, ◌∙◌, subst, ⊎_elim, length-set, get_or-set_other, get_or-set_same}
-use Rattle.std.proofs.lemmas.Bool.{eqb-false, cases_eq, or_cases, or_parts, or_right}
+use Rattle.std.proofs.lemmas.Bool.{eqb-false, cases_eq, or_parts, or_right}
 use Rattle.kinds.specs.declared.kind.Kind.{Ghosts as Kind}
 use Rattle.flows.specs.declared.flow.Rule.{Rule}
 use Rattle.flows.specs.declared.flow.Rule.TheVariants.{Operator, Name}
@@ -8,7 +8,7 @@ use Rattle.flows.specs.declared.flow.Flow.{Flow}
 use Rattle.flows.specs.Flows.{held, operand, result, is, reads, flow, Within}
 use Rattle.flows.specs.Queues.{waits}
 use Rattle.flows.specs.Runs.{woken, applied, Run, begins, passes, rises}
-use Rattle.flows.proofs.Queues.{waits_append, waits_here, woken_known}
+use Rattle.flows.proofs.Queues.{waits_here, wakened_known}
 
 module _ {K : Type 0} (kind : Kind K) where
   -- a flow brings the same where two assignments agree on what it reads
@@ -52,10 +52,9 @@ module _ {K : Type 0} (kind : Kind K) where
     pub fits_rises : (vs : List K) (i : ℕ) (q : List ℕ) → Fits vs (i ∷ q) → Fits (applied kind (flow flows i) vs) (q ++ woken flows (flow flows i).target q (length flows))
     fits_rises vs i q fits =
         let t = (flow flows i).target in
-        let more = woken flows t q (length flows) in
         record {
           within = λ j h. subst (λ n. (flow flows j).target < n) (sym (length-set vs t _)) (fits.within j h);
-          known = λ j w. ⊎_elim ((fits_passes vs i q fits).known j) (woken_known flows t q (length flows) j) (or_cases (waits j q) (waits j more) (sym (waits_append j q more) ∙ w));
+          known = wakened_known flows t q (fits_passes vs i q fits).known;
         }
 
     pub fits_run : (start : List K) (first : List ℕ) → Fits start first → {vs : List K} {q : List ℕ} {n : ℕ} {rs : List ℕ} → Run kind flows start first vs q n rs → Fits vs q

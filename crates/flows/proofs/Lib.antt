@@ -1,7 +1,7 @@
 pub mod Queues
-pub mod Rings
-pub mod Turns
+pub mod Flags
 pub mod Links
+pub mod Tables
 pub mod Walks
 pub mod Listed
 pub mod Built

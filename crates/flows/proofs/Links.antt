@@ -1,178 +1,148 @@
--- Slots linked both ways, a list for each variable. Assumes nothing.
-use Rattle.std.proofs.Common.{◌≡◌, ℕ, zero, suc, ◌+◌, ◌/◌, ◌<◌, ◌≤◌, true, cond, eqb, ◌⊎◌, List, [], ◌∷◌, ◌++◌, length, get_or, set, sym, refl, ap, ◌∙◌, subst, inl, inr, ⊎_elim, append-nil, add-one, arith, get_or-set_other, get_or-set_same}
-use Rattle.std.proofs.lemmas.Bool.{cases_eq, cases_Bool, cond-true, cond-false, eqb-true, eqb-false, eq-eqb, ne_eqb}
-use Rattle.flows.specs.Links.{latest, listing}
+-- The neighbours of slots in their lists. Assumes nothing.
+use Rattle.std.proofs.Common.{◌≡◌, ℕ, zero, suc, ◌+◌, ◌-◌, ◌/◌, ◌<◌, ◌≤◌, false, cond, eqb, ltb, List, [], ◌∷◌, ◌++◌, get_or, Some, None, Option, MatchOption, sym, refl, ap, ◌∙◌, subst, ⊎_elim, append-nil, add-one, arith}
+use Rattle.std.specs.Option.{option_or}
+use Rattle.std.proofs.lemmas.Bool.{cases_eq, cases_lt, cases_Bool, cond-true, cond-false, eqb-true, eqb-false, eq-eqb, ne_eqb, lt-ltb, le-ltb}
+use Rattle.flows.specs.Links.{latest, next_from, listing}
 
--- the last of the first n slots with a variable is the variable's own node, or a slot with the variable
-pub lands : (room : ℕ) (vs : List ℕ) (v n : ℕ) → (latest room vs v n ≡ room + v) ⊎ ((latest room vs v n < n) × (get_or vs (latest room vs v n) 0 ≡ v))
-lands room vs v zero = inl refl
-lands room vs v (suc n) =
-    ⊎_elim
-    (λ here. let e = cond-true (eqb (get_or vs n 0) v) n (latest room vs v n) here in inr (omega arith, ap (λ k. get_or vs k 0) e ∙ eqb-true _ _ here))
-    (λ other.
-    let e = cond-false (eqb (get_or vs n 0) v) n (latest room vs v n) other in
-    ⊎_elim (λ own. inl (e ∙ own)) (λ slot. inr (omega (arith, slot.0), ap (λ k. get_or vs k 0) e ∙ slot.1)) (lands room vs v n))
-    (cases_Bool (eqb (get_or vs n 0) v))
+-- a slot is the last one of a list among the first n, or none of them is in it
+abbrev pub IsLast : List ℕ → ℕ → ℕ → Option ℕ → Type 0
+IsLast ls v n None = (t : ℕ) → t < n → get_or ls t 0 ≡ v → ⊥
+IsLast ls v n (Some u) = (u < n) × (get_or ls u 0 ≡ v) × ((t : ℕ) → u < t → t < n → get_or ls t 0 ≡ v → ⊥)
 
--- no slot with the variable comes after it
-pub reaches : (room : ℕ) (vs : List ℕ) (v n t : ℕ) → t < n → get_or vs t 0 ≡ v → (t ≤ latest room vs v n) × (latest room vs v n < n)
-reaches room vs v zero t h e = absurd (omega arith)
-reaches room vs v (suc n) t h e =
-    ⊎_elim
-    (λ here. let at = cond-true (eqb (get_or vs n 0) v) n (latest room vs v n) here in (omega arith, omega arith))
-    (λ other.
-    let at = cond-false (eqb (get_or vs n 0) v) n (latest room vs v n) other in
-    let earlier : t < n = ⊎_elim (λ same. absurd (eqb-false _ _ other (ap (λ k. get_or vs k 0) (sym same) ∙ e))) (λ ne. omega arith) (cases_eq t n) in
-    let more = reaches room vs v n t earlier e in (omega arith, omega arith))
-    (cases_Bool (eqb (get_or vs n 0) v))
+-- a slot is the first one of a list from slot k on, among the first n, or none of them is in it
+abbrev pub IsNext : List ℕ → ℕ → ℕ → ℕ → Option ℕ → Type 0
+IsNext ls v k n None = (t : ℕ) → k ≤ t → t < n → get_or ls t 0 ≡ v → ⊥
+IsNext ls v k n (Some s) = (k ≤ s) × (s < n) × (get_or ls s 0 ≡ v) × ((t : ℕ) → k ≤ t → t < s → get_or ls t 0 ≡ v → ⊥)
 
--- a slot behind the first n changes nothing of them
-pub latest_kept : (room : ℕ) (vs : List ℕ) (v n i x : ℕ) → n ≤ i → latest room (set vs i x) v n ≡ latest room vs v n
-latest_kept room vs v zero i x h = refl
-latest_kept room vs v (suc n) i x h =
-    let ne : n ≡ i → ⊥ = λ e. omega arith in
-    ap (λ y. cond (eqb y v) n (latest room (set vs i x) v n)) (get_or-set_other vs i n x 0 ne)
-    ∙ ap (λ y. cond (eqb (get_or vs n 0) v) n y) (latest_kept room vs v n i x (omega arith))
+module _ (ls : List ℕ) (v : ℕ) where
+  -- none of the first n + 1, if slot n is not in the list
+  none_more : (k n : ℕ) → (eqb (get_or ls n 0) v ≡ false) → ((t : ℕ) → k ≤ t → t < n → get_or ls t 0 ≡ v → ⊥) → (t : ℕ) → k ≤ t → t < suc n → get_or ls t 0 ≡ v → ⊥
+  none_more k n other none t low high e =
+      ⊎_elim (λ last. eqb-false _ _ other (ap (λ j. get_or ls j 0) (sym last) ∙ e)) (λ ne. none t low (omega arith) e) (cases_eq t n)
 
-pub listing_kept : (vs : List ℕ) (v n i x : ℕ) → n ≤ i → listing (set vs i x) v n ≡ listing vs v n
-listing_kept vs v zero i x h = refl
-listing_kept vs v (suc n) i x h =
-    let ne : n ≡ i → ⊥ = λ e. omega arith in
-    ap (λ y. listing (set vs i x) v n ++ cond (eqb y v) (n / 2 ∷ []) []) (get_or-set_other vs i n x 0 ne)
-    ∙ ap (λ ys. ys ++ cond (eqb (get_or vs n 0) v) (n / 2 ∷ []) []) (listing_kept vs v n i x (omega arith))
-
-pub record Linked (room many slots : ℕ) (variables previous next last : List ℕ) : Type 0 where
-  pub ends : (v : ℕ) → v < many → get_or last v 0 ≡ latest room variables v slots
-  pub known : (t : ℕ) → t < slots → get_or variables t 0 < many
-  pub back : (t : ℕ) → t < slots → get_or previous t 0 ≡ latest room variables (get_or variables t 0) t
-  pub forth : (t : ℕ) → t < slots → get_or next (get_or previous t 0) 0 ≡ t
-
-module _ (room : ℕ) (vs : List ℕ) where
-  -- between two numbers of slots with the same last one, none has the variable
-  pub still : (v k n : ℕ) → k ≤ n → n ≤ room → latest room vs v k ≡ latest room vs v n → listing vs v k ≡ listing vs v n
-  still v k zero h few e = let z : k ≡ 0 = omega arith in ap (listing vs v) z
-  still v k (suc n) h few e =
+  pub is_last : (n : ℕ) → IsLast ls v n (latest ls v n)
+  is_last zero = λ t h e. omega arith
+  is_last (suc n) =
       ⊎_elim
-      (λ same. ap (listing vs v) same)
-      (λ ne. ⊎_elim
-      (λ here.
-      let at = cond-true (eqb (get_or vs n 0) v) n (latest room vs v n) here in
-      absurd (⊎_elim (λ own. omega arith) (λ slot. omega (arith, slot.0)) (lands room vs v k)))
-      (λ other.
-      let at = cond-false (eqb (get_or vs n 0) v) n (latest room vs v n) other in
-      let skip = cond-false (eqb (get_or vs n 0) v) (n / 2 ∷ []) [] other in
-      still v k n (omega arith) (omega arith) (e ∙ at) ∙ sym (ap (λ ys. listing vs v n ++ ys) skip ∙ append-nil (listing vs v n)))
-      (cases_Bool (eqb (get_or vs n 0) v)))
-      (cases_eq k (suc n))
+      (λ here. subst (IsLast ls v (suc n)) (sym (cond-true (eqb (get_or ls n 0) v) (Some n) (latest ls v n) here)) (omega arith, eqb-true _ _ here, λ t low high e. omega arith))
+      (λ other. subst (IsLast ls v (suc n)) (sym (cond-false (eqb (get_or ls n 0) v) (Some n) (latest ls v n) other)) (more other (latest ls v n) (is_last n)))
+      (cases_Bool (eqb (get_or ls n 0) v))
+    where
+      more : eqb (get_or ls n 0) v ≡ false → (o : Option ℕ) → IsLast ls v n o → IsLast ls v (suc n) o
+      more other None none = λ t high e. none_more 0 n other (λ t low high e. none t high e) t (omega arith) high e
+      more other (Some u) is = (omega (arith, is.0), is.1, λ t low high e. none_more (suc u) n other (λ t low high e. is.2 t (omega arith) high e) t (omega arith) high e)
 
-  record Found (v k n : ℕ) : Type 0 where
-    pub slot : ℕ
-    pub low : k ≤ slot
-    pub high : slot < n
-    pub has : get_or vs slot 0 ≡ v
-    pub from : latest room vs v slot ≡ latest room vs v k
+  pub is_next : (k n : ℕ) → IsNext ls v k n (next_from ls v k n)
+  is_next k zero = λ t low high e. omega arith
+  is_next k (suc n) = step (next_from ls v k n) (is_next k n)
+    where
+      step : (o : Option ℕ) → IsNext ls v k n o → IsNext ls v k (suc n) (option_or o (cond (ltb n k) None (cond (eqb (get_or ls n 0) v) (Some n) None)))
+      step (Some s) is = (is.0, omega (arith, is.1), is.2, is.3)
+      step None none =
+          ⊎_elim
+          (λ early. subst (IsNext ls v k (suc n)) (sym (cond-true (ltb n k) None (cond (eqb (get_or ls n 0) v) (Some n) None) (lt-ltb n k early))) (λ t low high e. omega arith))
+          (λ late. subst (IsNext ls v k (suc n)) (sym (cond-false (ltb n k) None (cond (eqb (get_or ls n 0) v) (Some n) None) (le-ltb n k late)))
+          (⊎_elim
+          (λ here. subst (IsNext ls v k (suc n)) (sym (cond-true (eqb (get_or ls n 0) v) (Some n) None here)) (late, omega arith, eqb-true _ _ here, none))
+          (λ other. subst (IsNext ls v k (suc n)) (sym (cond-false (eqb (get_or ls n 0) v) (Some n) None other)) (none_more k n other none))
+          (cases_Bool (eqb (get_or ls n 0) v))))
+          (cases_lt n k)
 
-  -- the first slot with a variable after the first k
-  found : (v k n : ℕ) → k ≤ n → (latest room vs v k ≡ latest room vs v n → ⊥) → Found v k n
-  found v k zero h ne = let z : k ≡ 0 = omega arith in absurd (ne (ap (latest room vs v) z))
-  found v k (suc n) h ne =
+  -- there is one answer
+  pub one_last : (n : ℕ) (o p : Option ℕ) → IsLast ls v n o → IsLast ls v n p → o ≡ p
+  one_last n None None a b = refl
+  one_last n None (Some t) a b = absurd (a t b.0 b.1)
+  one_last n (Some s) None a b = absurd (b s a.0 a.1)
+  one_last n (Some s) (Some t) a b =
       ⊎_elim
-      (λ same. absurd (ne (ap (latest room vs v) same)))
-      (λ less. ⊎_elim
-      (λ e. ⊎_elim
-      (λ here. record { slot = n; low = omega arith; high = omega arith; has = eqb-true _ _ here; from = sym e })
-      (λ other. absurd (ne (e ∙ sym (cond-false (eqb (get_or vs n 0) v) n (latest room vs v n) other))))
-      (cases_Bool (eqb (get_or vs n 0) v)))
-      (λ apart. let f = found v k n (omega arith) apart in
-      record { slot = f.slot; low = f.low; high = omega (arith, f.high); has = f.has; from = f.from })
-      (cases_eq (latest room vs v k) (latest room vs v n)))
-      (cases_eq k (suc n))
+      (λ less. absurd (a.2 t less b.0 b.1))
+      (λ more. ⊎_elim (λ less. absurd (b.2 s less a.0 a.1)) (λ more'. let e : s ≡ t = omega arith in ap Some e) (cases_lt t s))
+      (cases_lt s t)
 
-module _ {room many slots : ℕ} {vs previous next last : List ℕ} (linked : Linked room many slots vs previous next last) (fits : slots ≤ room) where
-  pub record Step (v k slot : ℕ) : Type 0 where
-    pub low : k ≤ slot
-    pub high : slot < slots
-    pub on : latest room vs v (slot + 1) ≡ slot
-    pub lists : listing vs v (slot + 1) ≡ listing vs v k ++ slot / 2 ∷ []
+  pub one_next : (k n : ℕ) (o p : Option ℕ) → IsNext ls v k n o → IsNext ls v k n p → o ≡ p
+  one_next k n None None a b = refl
+  one_next k n None (Some t) a b = absurd (a t b.0 b.1 b.2)
+  one_next k n (Some s) None a b = absurd (b s a.0 a.1 a.2)
+  one_next k n (Some s) (Some t) a b =
+      ⊎_elim
+      (λ less. absurd (b.3 s a.0 less a.2))
+      (λ more. ⊎_elim (λ less. absurd (a.3 t b.0 less b.2)) (λ more'. let e : s ≡ t = omega arith in ap Some e) (cases_lt t s))
+      (cases_lt s t)
 
-  -- the link of the last of the first k slots leads to it
-  pub step : (v k : ℕ) → k ≤ slots → (latest room vs v k ≡ latest room vs v slots → ⊥) → Step v k (get_or next (latest room vs v k) 0)
-  step v k h ne =
-      let f = found room vs v k slots h ne in
-      let t = f.slot in
-      let here : eqb (get_or vs t 0) v ≡ true = eq-eqb _ _ f.has in
-      let led : get_or next (latest room vs v k) 0 ≡ t = ap (λ j. get_or next j 0) (sym (linked.back t f.high ∙ ap (λ u. latest room vs u t) f.has ∙ f.from)) ∙ linked.forth t f.high in
-      subst (Step v k) (sym led)
-      (record {
-        low = f.low;
-        high = f.high;
-        on = ap (latest room vs v) (add-one t) ∙ cond-true (eqb (get_or vs t 0) v) t (latest room vs v t) here;
-        lists = ap (listing vs v) (add-one t) ∙ ap (λ ys. listing vs v t ++ ys) (cond-true (eqb (get_or vs t 0) v) (t / 2 ∷ []) [] here)
-            ∙ ap (λ ys. ys ++ t / 2 ∷ []) (sym (still room vs v k t f.low (omega (arith, f.high)) (sym f.from)));
-      })
+  -- where none of the slots from k up to m is in the list, nothing is listed
+  still : (k m : ℕ) → k ≤ m → ((t : ℕ) → k ≤ t → t < m → get_or ls t 0 ≡ v → ⊥) → listing ls v m ≡ listing ls v k
+  still k zero low none = let z : zero ≡ k = omega arith in ap (listing ls v) z
+  still k (suc m) low none =
+      ⊎_elim
+      (λ same. ap (listing ls v) (sym same))
+      (λ ne.
+      let other = cond-false (eqb (get_or ls m 0) v) (m / 2 ∷ []) [] (ne_eqb _ _ (none m (omega arith) (omega arith))) in
+      ap (λ ys. listing ls v m ++ ys) other ∙ append-nil (listing ls v m) ∙ still k m (omega arith) (λ t low high e. none t low (omega arith) e))
+      (cases_eq k (suc m))
 
-  -- every node lies among the nodes
-  pub node_bound : (v n : ℕ) → n ≤ room → v < many → latest room vs v n < room + many
-  node_bound v n few h = ⊎_elim (λ own. omega arith) (λ slot. omega (arith, slot.0)) (lands room vs v n)
+  -- a walk comes to the next slot, or to the end
+  pub walk_on : (k n s : ℕ) → IsNext ls v k n (Some s) → listing ls v (s + 1) ≡ listing ls v k ++ s / 2 ∷ []
+  walk_on k n s is =
+      let here = cond-true (eqb (get_or ls s 0) v) (s / 2 ∷ []) [] (eq-eqb _ _ is.2) in
+      ap (listing ls v) (add-one s) ∙ ap (λ ys. listing ls v s ++ ys) here ∙ ap (λ ys. ys ++ s / 2 ∷ []) (still k s is.0 is.3)
 
-  -- a slot is appended
-  module _ (v p : ℕ) (known : v < many) (free : slots < room) (was : p ≡ latest room vs v slots) (longs : length vs ≡ room) (sized : length previous ≡ room) (noded : length next ≡ room + many) (ended : length last ≡ many) where
-    -- no earlier slot has the same one before it
-    apart : (t : ℕ) → t < slots → get_or previous t 0 ≡ latest room vs v slots → ⊥
-    apart t h e =
-        let u = get_or vs t 0 in
-        let before : latest room vs u t ≡ latest room vs v slots = sym (linked.back t h) ∙ e in
-        ⊎_elim
-        (λ same. let r = reaches room vs v slots t h same in
-        let p = ap (λ x. latest room vs x t) same in
-        ⊎_elim (λ own. omega arith) (λ slot. omega (arith, slot.0)) (lands room vs u t))
-        (λ ne. ⊎_elim
-        (λ own. ⊎_elim (λ own'. omega arith) (λ slot. omega (arith, slot.0)) (lands room vs v slots))
-        (λ slot. ⊎_elim (λ own'. omega (arith, slot.0)) (λ slot'. ne (sym slot.1 ∙ ap (λ k. get_or vs k 0) before ∙ slot'.1)) (lands room vs v slots))
-        (lands room vs u t))
-        (cases_eq u v)
+  pub walk_ends : (k n : ℕ) → k ≤ n → IsNext ls v k n None → listing ls v n ≡ listing ls v k
+  walk_ends k n low none = still k n low none
 
-    pub linked_more : Linked room many (slots + 1) (set vs slots v) (set previous slots p) (set next p slots) (set last v slots)
-    linked_more =
-        let here : get_or (set vs slots v) slots 0 ≡ v = get_or-set_same vs slots v 0 (omega arith) in
-        let at : get_or (set previous slots p) slots 0 ≡ p = get_or-set_same previous slots p 0 (omega arith) in
-        record {
-          ends = λ u h. ⊎_elim
-              (λ e. subst (λ w. get_or (set last v slots) w 0 ≡ latest room (set vs slots v) w (slots + 1)) (sym e)
-              (get_or-set_same last v slots 0 (omega arith) ∙ sym (ap (latest room (set vs slots v) v) (add-one slots) ∙ cond-true _ slots _ (eq-eqb _ _ here))))
-              (λ ne. get_or-set_other last v u slots 0 ne ∙ linked.ends u h
-              ∙ sym (ap (latest room (set vs slots v) u) (add-one slots) ∙ cond-false _ slots _ (ne_eqb _ _ (λ e. ne (sym e ∙ here))) ∙ latest_kept room vs u slots slots v (omega arith)))
-              (cases_eq u v);
-          known = λ t h. ⊎_elim
-              (λ e. let x = ap (λ k. get_or (set vs slots v) k 0) e ∙ here in omega arith)
-              (λ ne. omega (arith, get_or-set_other vs slots t v 0 ne, linked.known t (omega arith)))
-              (cases_eq t slots);
-          back = λ t h. ⊎_elim
-              (λ e. subst (λ k. get_or (set previous slots p) k 0 ≡ latest room (set vs slots v) (get_or (set vs slots v) k 0) k) (sym e)
-              (at ∙ was ∙ sym (ap (λ x. latest room (set vs slots v) x slots) here ∙ latest_kept room vs v slots slots v (omega arith))))
-              (λ ne. get_or-set_other previous slots t p 0 ne ∙ linked.back t (omega arith)
-              ∙ sym (ap (λ x. latest room (set vs slots v) x t) (get_or-set_other vs slots t v 0 ne) ∙ latest_kept room vs (get_or vs t 0) t slots v (omega arith)))
-              (cases_eq t slots);
-          forth = λ t h. ⊎_elim
-              (λ e. subst (λ k. get_or (set next p slots) (get_or (set previous slots p) k 0) 0 ≡ k) (sym e)
-              (ap (λ k. get_or (set next p slots) k 0) at ∙ get_or-set_same next p slots 0 (omega (arith, node_bound v slots fits known))))
-              (λ ne. ap (λ k. get_or (set next p slots) k 0) (get_or-set_other previous slots t p 0 ne)
-              ∙ get_or-set_other next p (get_or previous t 0) slots 0 (λ e. apart t (omega arith) (e ∙ was)) ∙ linked.forth t (omega arith))
-              (cases_eq t slots);
-        }
+-- one slot more, in list v
+module _ (ls ms : List ℕ) (n v : ℕ) (same : (t : ℕ) → t < n → get_or ls t 0 ≡ get_or ms t 0) (new : get_or ms n 0 ≡ v) where
+  -- what the slots before it say stays
+  pub latest_kept : (w k : ℕ) → k ≤ n → latest ls w k ≡ latest ms w k
+  latest_kept w zero few = refl
+  latest_kept w (suc k) few =
+      let here = same k (omega arith) in
+      let before = latest_kept w k (omega arith) in
+      (λ i. cond (eqb (here i) w) (Some k) (before i))
 
--- the newest slot is taken back
-pub linked_less : (room many n v p : ℕ) (vs previous next last : List ℕ) → Linked room many (n + 1) vs previous next last → length last ≡ many → v ≡ get_or vs n 0 → p ≡ get_or previous n 0
-    → Linked room many n vs previous next (set last v p)
-linked_less room many n v p vs previous next last linked ended is was =
-    let known : v < many = subst (λ x. x < many) (sym is) (linked.known n (omega arith)) in
-    record {
-      ends = λ u h. ⊎_elim
-          (λ e. subst (λ w. get_or (set last v p) w 0 ≡ latest room vs w n) (sym e)
-          (get_or-set_same last v p 0 (omega arith) ∙ was ∙ linked.back n (omega arith) ∙ ap (λ x. latest room vs x n) (sym is)))
-          (λ ne. get_or-set_other last v u p 0 ne ∙ linked.ends u h ∙ ap (latest room vs u) (add-one n) ∙ cond-false _ n _ (ne_eqb _ _ (λ e. ne (sym e ∙ sym is))))
-          (cases_eq u v);
-      known = λ t h. linked.known t (omega arith);
-      back = λ t h. linked.back t (omega arith);
-      forth = λ t h. linked.forth t (omega arith);
-    }
+  pub last_new : IsLast ms v (n + 1) (Some n)
+  last_new = (omega arith, new, λ t low high e. omega arith)
+
+  pub last_kept : (w : ℕ) (o : Option ℕ) → (w ≡ v → ⊥) → IsLast ls w n o → IsLast ms w (n + 1) o
+  last_kept w None ne none = λ t high e. ⊎_elim (λ last. ne (sym e ∙ ap (λ j. get_or ms j 0) last ∙ new)) (λ before. none t (omega arith) (same t (omega arith) ∙ e)) (cases_eq t n)
+  last_kept w (Some u) ne is = (
+    omega (arith, is.0),
+    sym (same u is.0) ∙ is.1,
+    λ t low high e. ⊎_elim (λ last. ne (sym e ∙ ap (λ j. get_or ms j 0) last ∙ new)) (λ before. is.2 t low (omega arith) (same t (omega arith) ∙ e)) (cases_eq t n),
+  )
+
+  pub last_back : (w : ℕ) (o : Option ℕ) → (w ≡ v → ⊥) → IsLast ms w (n + 1) o → IsLast ls w n o
+  last_back w None ne none = λ t high e. none t (omega arith) (sym (same t high) ∙ e)
+  last_back w (Some u) ne is =
+      let h : u < n = ⊎_elim (λ less. less) (λ more. let last : u ≡ n = omega (arith, is.0) in absurd (ne (sym is.1 ∙ ap (λ j. get_or ms j 0) last ∙ new))) (cases_lt u n) in
+      (h, same u h ∙ is.1, λ t low high e. is.2 t low (omega arith) (sym (same t high) ∙ e))
+
+  -- it comes next behind the last one before it, and nowhere else
+  pub next_new : (k : ℕ) (p : Option ℕ) → k ≤ n → IsLast ls v n p → MatchOption p (Unit {0}) (λ u. u < k) → IsNext ms v k (n + 1) (Some n)
+  next_new k None low none before = (low, omega arith, new, λ t low high e. none t high (same t high ∙ e))
+  next_new k (Some u) low is before = (low, omega arith, new, λ t low' high e. is.2 t (omega arith) high (same t high ∙ e))
+
+  pub next_kept : (w k : ℕ) (o : Option ℕ) → MatchOption o (w ≡ v → ⊥) (λ _. Unit {0}) → IsNext ls w k n o → IsNext ms w k (n + 1) o
+  next_kept w k None ne none = λ t low high e. ⊎_elim (λ last. ne (sym e ∙ ap (λ j. get_or ms j 0) last ∙ new)) (λ before. none t low (omega arith) (same t (omega arith) ∙ e)) (cases_eq t n)
+  next_kept w k (Some s) _ is =
+      let h = is.1 in
+      (is.0, omega arith, sym (same s h) ∙ is.2, λ t low high e. is.3 t low high (same t (omega arith) ∙ e))
+
+  pub next_none : (k : ℕ) (p : Option ℕ) → IsLast ls v n p → MatchOption p (Unit {0}) (λ u. u < k) → IsNext ls v k n None
+  next_none k None none before = λ t low high e. none t high e
+  next_none k (Some u) is before = λ t low high e. is.2 t (omega arith) high e
+
+  pub next_back : (w k : ℕ) (o : Option ℕ) → MatchOption o (Unit {0}) (λ s. s ≡ n → ⊥) → IsNext ms w k (n + 1) o → IsNext ls w k n o
+  next_back w k None _ none = λ t low high e. none t low (omega arith) (sym (same t high) ∙ e)
+  next_back w k (Some s) ne is =
+      let high' = is.1 in
+      let h : s < n = ⊎_elim (λ less. less) (λ more. let last : s ≡ n = omega arith in absurd (ne last)) (cases_lt s n) in
+      (is.0, h, same s h ∙ is.2, λ t low high e. is.3 t low high (sym (same t (omega arith)) ∙ e))
+
+-- how far a walk still has to go at most
+abbrev pub left : ℕ → Option ℕ → ℕ
+left n None = 0
+left n (Some s) = n - s
+
+pub left_falls : (ls : List ℕ) (v s n : ℕ) (o : Option ℕ) → s < n → IsNext ls v (s + 1) n o → left n o < n - s
+left_falls ls v s n None h none = omega arith
+left_falls ls v s n (Some t) h is = omega (arith, is.0, is.1)

@@ -1,40 +1,17 @@
 -- A table of readers and the flows that it lists. Assumes nothing.
-use Rattle.std.proofs.Common.{◌≡◌, ℕ, zero, suc, ◌+◌, ◌*◌, ◌/◌, ◌<◌, ◌≤◌, Bool, true, false, cond, ◌||◌, eqb, ltb, List, [], ◌∷◌, ◌++◌, length, get_or, take, set, Some, None, fold, Option, sym, refl, ap, ◌∙◌, subst, ⊎_elim, append-nil, add-one, arith, length-set, length-take-le, get_or-set_other, get_or-take, get_or-set_same}
-use Rattle.std.proofs.lemmas.List.{get_or_append_left, get_or_push, length_push, take_all}
+use Rattle.std.proofs.Common.{◌≡◌, ℕ, zero, suc, ◌+◌, ◌*◌, ◌/◌, ◌<◌, ◌≤◌, Bool, true, false, cond, ◌||◌, eqb, ltb, List, [], ◌∷◌, ◌++◌, length, get_or, take, Some, None, fold, Option, sym, refl, ap, ◌∙◌, ⊎_elim, append-nil, add-one, arith}
 use Rattle.std.proofs.lemmas.List.Sums.{fold_push}
-use Rattle.std.proofs.lemmas.Bool.{cases_eq, cases_lt, cases_Bool, cond-true, cond-false, eqb-true, eqb-false, ne_eqb, lt-ltb, le-ltb}
+use Rattle.std.proofs.lemmas.Bool.{cases_lt, cases_Bool, cond-true, cond-false, eqb-true, eqb-false, ne_eqb, lt-ltb, le-ltb}
 use Rattle.flows.specs.declared.flow.Flow.{Flow}
 use Rattle.flows.specs.declared.flow.Rule.{Rule}
 use Rattle.flows.specs.declared.flow.Rule.TheVariants.{Operator, Name}
-use Rattle.flows.specs.declared.readers.Readers.{Readers}
 use Rattle.flows.specs.Flows.{is, reads, flow}
-use Rattle.flows.specs.Limits.{most_variables, most_slots, list_count}
+use Rattle.flows.specs.Limits.{most_variables}
 use Rattle.flows.specs.Queues.{joined}
 use Rattle.flows.specs.Runs.{woken}
 use Rattle.flows.specs.Links.{listing}
-use Rattle.flows.specs.Reading.{reading, list_of, first_list, second_list, filled, Indexes, Adds, Cuts}
+use Rattle.flows.specs.Reading.{reading, list_of, first_list, second_list, both_lists}
 use Rattle.flows.proofs.Queues.{woken_more}
-
--- the lists in which a rule stands are there
-list_bound : (o : Option ℕ) → list_of o < list_count
-list_bound None = omega arith
-list_bound (Some v) =
-    ⊎_elim
-    (λ less. omega (arith, cond-true (ltb v most_variables) v most_variables (lt-ltb v most_variables less)))
-    (λ more. omega (arith, cond-false (ltb v most_variables) v most_variables (le-ltb v most_variables more)))
-    (cases_lt v most_variables)
-
-pub first_bound : (rule : Rule) → first_list rule < list_count
-first_bound (Operator o x y) = list_bound x
-first_bound (Name n) = omega arith
-
-pub second_bound : (rule : Rule) → second_list rule < list_count
-second_bound (Operator o x y) = go (eqb (list_of y) (list_of x))
-  where
-    go : (b : Bool) → cond b most_variables (list_of y) < list_count
-    go true = omega arith
-    go false = list_bound y
-second_bound (Name n) = omega arith
 
 -- they tell which variables the rule reads, each once
 module _ (v : ℕ) (known : v < most_variables) where
@@ -78,87 +55,52 @@ module _ (v : ℕ) (known : v < most_variables) where
     slots_tell (Name m) =
         ap (λ c. (xs ++ cond c (n ∷ []) []) ++ cond c (n ∷ []) []) none ∙ append-nil (xs ++ [])
 
-  -- what a table lists under a variable are the flows that read it
-  module _ (r : Readers) (flows : List Flow) (indexed : Indexes r flows) where
-    listed : (n : ℕ) → n ≤ length flows → listing (filled r) v (2 * n) ≡ reading flows v n
-    listed zero few = refl
-    listed (suc n) few =
-        let s = 2 * n in
-        let first = indexed.first n (omega arith) in
-        let second = indexed.second n (omega arith) in
-        let twice : 2 * suc n ≡ suc (suc s) = omega arith in
-        let more : suc s ≡ s + 1 = omega arith in
-        let half : s / 2 ≡ n = omega arith in
-        let half' : (s + 1) / 2 ≡ n = omega arith in
-        ap (listing (filled r) v) twice
-        ∙ ap (λ k. (listing (filled r) v s ++ cond (eqb (get_or (filled r) s 0) v) (s / 2 ∷ []) []) ++ cond (eqb (get_or (filled r) k 0) v) (k / 2 ∷ []) []) more
-        ∙ (λ i. (listed n (omega arith) i ++ cond (eqb (first i) v) (half i ∷ []) []) ++ cond (eqb (second i) v) (half' i ∷ []) [])
-        ∙ slots_tell n (reading flows v n) (flow flows n).rule
+-- the two slots of a flow
+twice : (n : ℕ) → 2 * suc n ≡ suc (suc (2 * n))
+twice n = omega arith
 
--- a table with no slots lists no flows
-pub indexes_none : (r : Readers) → r.slots ≡ 0 → Indexes r []
-indexes_none r empty = record { counted = empty; first = λ n h. absurd (omega arith); second = λ n h. absurd (omega arith) }
+both_first : (flows : List Flow) (n : ℕ) → n < length flows → get_or (both_lists flows) (2 * n) 0 ≡ first_list (flow flows n).rule
+both_first [] n h = absurd (omega arith)
+both_first (f ∷ flows) zero h = refl
+both_first (f ∷ flows) (suc n) h = ap (λ k. get_or (both_lists (f ∷ flows)) k 0) (twice n) ∙ both_first flows n (omega arith)
 
--- one flow more
-module _ (r more : Readers) (f : Flow) (a b : ℕ) (first : a ≡ first_list f.rule) (second : b ≡ second_list f.rule) (free : r.slots + 2 ≤ most_slots) (slots : more.slots ≡ r.slots + 2)
-    (is : filled more ≡ set (set (filled r) r.slots a) (r.slots + 1) b) where
-  s : ℕ
-  s = r.slots
+both_second : (flows : List Flow) (n : ℕ) → n < length flows → get_or (both_lists flows) (2 * n + 1) 0 ≡ second_list (flow flows n).rule
+both_second [] n h = absurd (omega arith)
+both_second (f ∷ flows) zero h = refl
+both_second (f ∷ flows) (suc n) h =
+    let e : 2 * suc n + 1 ≡ suc (suc (2 * n + 1)) = omega arith in
+    ap (λ k. get_or (both_lists (f ∷ flows)) k 0) e ∙ both_second flows n (omega arith)
 
-  long : length (filled r) ≡ most_slots
-  long = sym r.variable.ok.0 ∙ r.slotted
+pub both_long : (flows : List Flow) → length (both_lists flows) ≡ 2 * length flows
+both_long [] = refl
+both_long (f ∷ flows) = omega (arith, both_long flows)
 
-  kept : (k : ℕ) → k < r.slots → get_or (filled more) k 0 ≡ get_or (filled r) k 0
-  kept k h =
-      let ne : k ≡ r.slots → ⊥ = λ e. omega arith in
-      let ne' : k ≡ r.slots + 1 → ⊥ = λ e. omega arith in
-      ap (λ xs. get_or xs k 0) is ∙ get_or-set_other (set (filled r) r.slots a) (r.slots + 1) k b 0 ne' ∙ get_or-set_other (filled r) r.slots k a 0 ne
+-- one flow more, and fewer flows
+pub both_more : (flows : List Flow) (f : Flow) → both_lists (flows ++ f ∷ []) ≡ both_lists flows ++ first_list f.rule ∷ second_list f.rule ∷ []
+both_more [] f = refl
+both_more (g ∷ flows) f = ap (λ xs. first_list g.rule ∷ second_list g.rule ∷ xs) (both_more flows f)
 
-  one : get_or (filled more) r.slots 0 ≡ a
-  one =
-      let ne : r.slots ≡ r.slots + 1 → ⊥ = λ e. omega arith in
-      ap (λ xs. get_or xs r.slots 0) is ∙ get_or-set_other (set (filled r) r.slots a) (r.slots + 1) r.slots b 0 ne ∙ get_or-set_same (filled r) r.slots a 0 (omega (arith, long))
+pub both_cut : (flows : List Flow) (n : ℕ) → take (2 * n) (both_lists flows) ≡ both_lists (take n flows)
+both_cut flows zero = refl
+both_cut [] (suc n) = ap (λ k. take k []) (twice n)
+both_cut (f ∷ flows) (suc n) = ap (λ k. take k (both_lists (f ∷ flows))) (twice n) ∙ ap (λ xs. first_list f.rule ∷ second_list f.rule ∷ xs) (both_cut flows n)
 
-  two : get_or (filled more) (r.slots + 1) 0 ≡ b
-  two = ap (λ xs. get_or xs (r.slots + 1) 0) is ∙ get_or-set_same (set (filled r) r.slots a) (r.slots + 1) b 0 (omega (arith, length-set (filled r) r.slots a, long))
-
-  pub added : Adds r more f
-  added flows old =
-      let len = length flows in
-      let counted = old.counted in
-      let longer : length (flows ++ f ∷ []) ≡ len + 1 = length_push flows f in
-      let here : flow (flows ++ f ∷ []) len ≡ f = get_or_push flows f _ len refl in
-      let before : (n : ℕ) → n < len → flow (flows ++ f ∷ []) n ≡ flow flows n = λ n h. get_or_append_left flows (f ∷ []) _ n h in
-      record {
-        counted = omega arith;
-        first = λ n h. ⊎_elim
-            (λ e.
-            let at : 2 * n ≡ r.slots = omega arith in
-            ap (λ k. get_or (filled more) k 0) at ∙ one ∙ first ∙ ap (λ (g : Flow). first_list g.rule) (sym (ap (flow (flows ++ f ∷ [])) e ∙ here)))
-            (λ ne. kept (2 * n) (omega arith) ∙ old.first n (omega arith) ∙ ap (λ (g : Flow). first_list g.rule) (sym (before n (omega arith))))
-            (cases_eq n len);
-        second = λ n h. ⊎_elim
-            (λ e.
-            let at : 2 * n + 1 ≡ r.slots + 1 = omega arith in
-            ap (λ k. get_or (filled more) k 0) at ∙ two ∙ second ∙ ap (λ (g : Flow). second_list g.rule) (sym (ap (flow (flows ++ f ∷ [])) e ∙ here)))
-            (λ ne. kept (2 * n + 1) (omega arith) ∙ old.second n (omega arith) ∙ ap (λ (g : Flow). second_list g.rule) (sym (before n (omega arith))))
-            (cases_eq n len);
-      }
-
--- fewer flows
-pub cut : (r fewer : Readers) (n : ℕ) → fewer.slots ≡ 2 * n → 2 * n ≤ r.slots → filled fewer ≡ filled r → Cuts r fewer n
-cut r fewer n slots low is flows old =
-    let counted = old.counted in
-    let long : length (take n flows) ≡ n = length-take-le n flows (omega arith) in
-    let same : (k : ℕ) → k < n → flow flows k ≡ flow (take n flows) k = λ k h. sym (get_or-take n flows k _ h) in
-    record {
-      counted = omega arith;
-      first = λ k h. ap (λ xs. get_or xs (2 * k) 0) is ∙ old.first k (omega arith) ∙ ap (λ (g : Flow). first_list g.rule) (same k (omega arith));
-      second = λ k h. ap (λ xs. get_or xs (2 * k + 1) 0) is ∙ old.second k (omega arith) ∙ ap (λ (g : Flow). second_list g.rule) (same k (omega arith));
-    }
-
-pub uncut : (r : Readers) (n : ℕ) → r.slots / 2 ≤ n → Cuts r r n
-uncut r n high flows old = let counted = old.counted in subst (Indexes r) (sym (take_all n flows (omega arith))) old
+-- what the slots of flows list under a variable are the flows that read it
+listed : (v : ℕ) → v < most_variables → (flows : List Flow) (n : ℕ) → n ≤ length flows → listing (both_lists flows) v (2 * n) ≡ reading flows v n
+listed v known flows zero few = refl
+listed v known flows (suc n) few =
+    let s = 2 * n in
+    let ls = both_lists flows in
+    let first = both_first flows n (omega arith) in
+    let second = both_second flows n (omega arith) in
+    let more : suc s ≡ s + 1 = omega arith in
+    let half : s / 2 ≡ n = omega arith in
+    let half' : (s + 1) / 2 ≡ n = omega arith in
+    let before = listed v known flows n (omega arith) in
+    ap (listing ls v) (twice n)
+    ∙ ap (λ k. (listing ls v s ++ cond (eqb (get_or ls s 0) v) (s / 2 ∷ []) []) ++ cond (eqb (get_or ls k 0) v) (k / 2 ∷ []) []) more
+    ∙ (λ i. (before i ++ cond (eqb (first i) v) (half i ∷ []) []) ++ cond (eqb (second i) v) (half' i ∷ []) [])
+    ∙ slots_tell v known n (reading flows v n) (flow flows n).rule
 
 -- all flows that read a variable join a queue
 all_join : (flows : List Flow) (v : ℕ) (q : List ℕ) (n : ℕ) → fold joined q (reading flows v n) ≡ q ++ woken flows v q n
@@ -171,7 +113,7 @@ all_join flows v q (suc n) =
     go true = fold_push joined q (reading flows v n) n
     go false = ap (fold joined q) (append-nil (reading flows v n))
 
--- and those that a table lists under it are these
-pub woken_all : (r : Readers) (flows : List Flow) (v : ℕ) (q : List ℕ) → Indexes r flows → v < most_variables → fold joined q (listing (filled r) v r.slots) ≡ q ++ woken flows v q (length flows)
-woken_all r flows v q indexed known =
-    ap (fold joined q) (ap (listing (filled r) v) indexed.counted ∙ listed v known r flows indexed (length flows) (omega arith)) ∙ all_join flows v q (length flows)
+-- and those that are listed under it are these
+pub woken_all : (flows : List Flow) (v : ℕ) (q : List ℕ) → v < most_variables → fold joined q (listing (both_lists flows) v (length (both_lists flows))) ≡ q ++ woken flows v q (length flows)
+woken_all flows v q known =
+    ap (fold joined q) (ap (listing (both_lists flows) v) (both_long flows) ∙ listed v known flows (length flows) (omega arith)) ∙ all_join flows v q (length flows)

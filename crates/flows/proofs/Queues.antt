@@ -1,6 +1,5 @@
 -- What waits in a queue. Assumes nothing.
-use Rattle.std.proofs.Common.{◌≡◌, ℕ, zero, suc, ◌+◌, ◌-◌, ◌<◌, ◌≤◌, Bool, true, false, cond, not, ◌&&◌, ◌||◌, eqb, List, [], ◌∷◌, ◌++◌, length, get_or, sym, refl, ap, ◌∙◌, subst, ⊎_elim, append_assoc, append-nil, add-one, arith, length-append}
-use Rattle.std.proofs.lemmas.List.{get_or_append_left, get_or_push}
+use Rattle.std.proofs.Common.{◌≡◌, ℕ, zero, suc, ◌+◌, ◌-◌, ◌<◌, ◌≤◌, Bool, true, false, cond, not, ◌&&◌, ◌||◌, eqb, List, [], ◌∷◌, ◌++◌, length, Some, None, Option, MatchOption, sym, refl, ap, ◌∙◌, subst, ⊎_elim, append_assoc, append-nil, add-one, arith, length-append}
 use Rattle.std.proofs.lemmas.Bool.{eqb-true, eq-eqb, ne_eqb, cases_eq, cases_Bool, cond-false, or_cases, or_parts, or_from, or_left, or_right, false≢true, both_ways}
 use Rattle.flows.specs.declared.flow.Flow.{Flow}
 use Rattle.flows.specs.Flows.{reads, flow}
@@ -43,6 +42,17 @@ woken_known flows v q (suc n) i h =
     last : (b : Bool) → waits i (cond b (n ∷ []) []) ≡ true → i < suc n
     last false e = absurd (false≢true e)
     last true e = ⊎_elim (λ same. omega (arith, eqb-true i n same)) (λ e. absurd (false≢true e)) (or_cases (eqb i n) false e)
+
+-- so only flows wait after it, if only flows waited before
+pub wakened_known : (flows : List Flow) (v : ℕ) (q : List ℕ) → ((i : ℕ) → waits i q ≡ true → i < length flows) → (i : ℕ) → waits i (q ++ woken flows v q (length flows)) ≡ true → i < length flows
+wakened_known flows v q known i w =
+    ⊎_elim (known i) (woken_known flows v q (length flows) i) (or_cases (waits i q) _ (sym (waits_append i q (woken flows v q (length flows))) ∙ w))
+
+-- and so it is when the first one leaves
+pub rest_known : (n : ℕ) (old new : List ℕ) (first : Option ℕ) → MatchOption first ((old ≡ []) × (new ≡ [])) (λ i. old ≡ i ∷ new)
+    → ((i : ℕ) → waits i old ≡ true → i < n) → (i : ℕ) → waits i new ≡ true → i < n
+rest_known n old new None left known i w = absurd (false≢true (sym (ap (waits i) left.1) ∙ w))
+rest_known n old new (Some j) left known i w = known i (ap (waits i) left ∙ or_right (eqb i j) (waits i new) w)
 
 -- a flow joins the queue behind those with lower numbers
 pub woken_more : (flows : List Flow) (v : ℕ) (q : List ℕ) (n : ℕ)
@@ -92,11 +102,3 @@ numbered_turn from i q q' low so_far pushed =
     let count : i + 1 - from ≡ suc (i - from) = omega arith in
     let here : from + (i - from) ≡ i = omega arith in
     pushed ∙ cond-false (waits i q) q (q ++ i ∷ []) new ∙ (λ k. so_far k ++ sym here k ∷ []) ∙ sym (ap (numbered from) count)
-
-pub numbered_at : (from n i d : ℕ) → i < n → get_or (numbered from n) i d ≡ from + i
-numbered_at from zero i d h = absurd (omega arith)
-numbered_at from (suc n) i d h =
-    ⊎_elim
-    (λ last. ap (λ k. get_or (numbered from n ++ (from + n) ∷ []) k d) last ∙ get_or_push (numbered from n) (from + n) d n (numbered_length from n) ∙ ap (λ k. from + k) (sym last))
-    (λ ne. get_or_append_left (numbered from n) ((from + n) ∷ []) d i (omega (arith, numbered_length from n)) ∙ numbered_at from n i d (omega arith))
-    (cases_eq i n)

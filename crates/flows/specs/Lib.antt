@@ -7,7 +7,8 @@ pub mod Histories
 pub mod Settling
 pub mod Explaining
 pub mod Networks
-pub mod Rings
 pub mod Pending
 pub mod Links
+pub mod Slots
 pub mod Reading
+pub mod Running

@@ -10,17 +10,14 @@ use std::alloc::{AllocError, Global};
 fn source_known(source: Option<Variable>, variables: Variable) -> bool
     ensures { result ≡ known variables source }
 {
-    match source {
-        Some(variable) => variable < variables,
-        None => true,
-    }
+    source.is_none_or(|variable| variable < variables)
 }
 
 fn sources_known(rule: Rule, variables: Variable) -> bool
     ensures { result ≡ knows variables rule }
 {
     match rule {
-        Rule::Operator(_, a, b) => source_known(a, variables) & source_known(b, variables),
+        Rule::Operator(_, a, b) => source_known(a, variables) && source_known(b, variables),
         Rule::Name(_) => true,
     }
 }
@@ -29,7 +26,7 @@ fn sources_known(rule: Rule, variables: Variable) -> bool
 pub(super) fn flow_inside(flow: Flow, variables: Variable) -> bool
     ensures { result ≡ inside variables flow }
 {
-    (flow.target < variables) & sources_known(flow.rule, variables)
+    flow.target < variables && sources_known(flow.rule, variables)
 }
 
 impl Network {

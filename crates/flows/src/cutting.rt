@@ -8,23 +8,13 @@ use super::network::{Counts, Network};
 fn flows_inside(flows: &[Flow], variables: Variable) -> bool
     ensures { Decides result (Closed variables flows.now) }
 {
-    for flow in flows {
-        if !flow_inside(*flow, variables) {
-            return false;
-        }
-    }
-    true
+    flows.iter().all(|flow| flow_inside(*flow, variables))
 }
 
 fn bounds_inside(bounds: &[Bound], variables: Variable) -> bool
     ensures { Decides result (Bounded variables bounds.now) }
 {
-    for bound in bounds {
-        if bound.variable >= variables {
-            return false;
-        }
-    }
-    true
+    bounds.iter().all(|bound| bound.variable < variables)
 }
 
 impl Network {
@@ -50,7 +40,7 @@ impl Network {
         if !self.can_cut(to) {
             return false;
         }
-        self.readers.cut_to(to.flows as usize);
+        self.readers.cut_to(to.flows);
         self.flows.truncate(to.flows as usize);
         self.bounds.truncate(to.bounds as usize);
         self.counts = to;

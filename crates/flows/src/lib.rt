@@ -14,5 +14,7 @@ mod queueing;
 mod readers;
 mod reading;
 mod run;
+mod running;
 mod settle;
+mod slot;
 pub mod worklist;

@@ -1,12 +1,13 @@
-ghost use Rattle.std.specs.Prelude.{◌≡◌, ◌+◌, ◌<◌, ◌≤◌, [], IfOk, MatchOption, slice_set};
+ghost use Rattle.std.specs.Prelude.{◌≡◌, ◌+◌, ◌-◌, ◌*◌, ◌<◌, ◌≤◌, [], ◌∷◌, ◌++◌, length, take, IfOk, IfSome, slice_index};
 ghost use Rattle.flows.specs.Limits.{most_variables, most_slots, list_count};
-ghost use Rattle.flows.specs.Queues.{numbered};
-ghost use Rattle.flows.specs.Links.{listing};
-ghost use Rattle.flows.specs.Reading.{list_of, first_list, second_list, filled, Indexes, Adds, Cuts, At, so_far, Next};
+ghost use Rattle.flows.specs.Links.{next_from};
+ghost use Rattle.flows.specs.Reading.{list_of, first_list, second_list, filled};
+ghost use Rattle.flows.specs.Slots.{led, begun};
 
-use super::flow::{Flow, Rule, Variable};
+use super::flow::{Flow, FlowNumber, Rule, Variable};
 use super::network::{MOST_FLOWS, MOST_VARIABLES};
 use super::readers::Readers;
+use super::slot::{Ends, Slot};
 use std::alloc::{AllocError, Global};
 
 // The list that stands for no source.
@@ -20,14 +21,7 @@ const LISTS: usize = NONE + 1;
 fn list_of(source: Option<Variable>) -> usize
     ensures { result ≡ list_of source }
 {
-    match source {
-        Some(v) => if (v as usize) < NONE {
-            v as usize
-        } else {
-            NONE
-        },
-        None => NONE,
-    }
+    source.map_or(NONE, |variable| NONE.min(variable as usize))
 }
 
 // The lists in which a rule stands: each source once.
@@ -45,36 +39,44 @@ fn sources(rule: Rule) -> (usize, usize)
     }
 }
 
-// The numbers from `first` on.
-fn counted_from(heap: Global, first: usize, count: usize) -> Result<Vec<usize>, AllocError>
-    requires { first + count ≤ most_slots + list_count }
-    ensures { IfOk result (λ v. v.items ≡ numbered first count) }
+// Makes what follows a slot in a list another slot, or what the list begins with if there is no such slot.
+fn lead(
+    slots: &mut [Slot],
+    ends: &mut [Ends],
+    list: usize,
+    before: Option<usize>,
+    to: Option<usize>,
+)
+    requires list { list < length ends.old }
+    requires before { IfSome before (λ b. b < length slots.old) }
+    ensures slots { slots.new ≡ led slots.old before to }
+    ensures ends { ends.new ≡ begun ends.old list before to }
 {
-    let mut numbers = Vec::with_capacity(heap, count)?;
-    for i in 0..count {
-        numbers.push(first + i)?;
+    match before {
+        Some(slot) => slots[slot].next = to,
+        None => ends[list].first = to,
     }
-    Ok(numbers)
 }
 
 impl Readers {
     // A table with no flows.
     pub(super) fn new(heap: Global) -> Result<Readers, AllocError>
-        ensures { IfOk result (λ x. Indexes x []) }
+        ensures { IfOk result (λ x. filled x ≡ []) }
     {
+        let empty = Ends {
+            first: None,
+            last: None,
+        };
         Ok(Readers {
-            slots: 0,
-            variable: vec![in heap; 0; SLOTS]?,
-            previous: vec![in heap; 0; SLOTS]?,
-            next: vec![in heap; 0; SLOTS + LISTS]?,
-            last: counted_from(heap, SLOTS, LISTS)?,
+            slots: Vec::with_capacity(heap, SLOTS)?,
+            ends: vec![in heap; empty; LISTS]?,
         })
     }
 
     // Lists the next flow under its sources.
     pub(super) fn add(&mut self, flow: Flow)
-        requires { self.old.slots + 2 ≤ most_slots }
-        ensures { Adds self.old self.new flow }
+        requires { length (filled self.old) + 2 ≤ most_slots }
+        ensures { filled self.new ≡ filled self.old ++ first_list flow.rule ∷ second_list flow.rule ∷ [] }
     {
         let (first, second) = sources(flow.rule);
         self.link(first);
@@ -82,61 +84,55 @@ impl Readers {
     }
 
     // Takes all flows but the first `count` back.
-    pub(super) fn cut_to(&mut self, count: usize)
-        ensures { Cuts self.old self.new count }
+    pub(super) fn cut_to(&mut self, count: FlowNumber)
+        ensures { filled self.new ≡ take (2 * count) (filled self.old) }
     {
-        if count < self.slots / 2 {
-            while self.slots > 2 * count {
-                self.unlink();
-            }
+        let kept = 2 * count as usize;
+        while self.slots.len() > kept {
+            self.unlink();
         }
     }
 
-    // Where a walk through the readers of a variable starts.
-    pub(super) fn start(&self, variable: usize) -> usize
+    // The first slot of a variable, if any.
+    pub(super) fn first(&self, variable: Variable) -> Option<usize>
         requires { variable < most_variables }
-        ensures at { At self.now variable result }
-        ensures none { so_far self.now variable result ≡ [] }
+        ensures { result ≡ next_from (filled self.now) variable 0 (length (filled self.now)) }
     {
-        SLOTS + variable
+        self.ends[variable as usize].first
     }
 
-    // The slot of a variable after a node, if any.
-    pub(super) fn after(&self, variable: usize, node: usize) -> Option<usize>
-        requires known { variable < most_variables }
-        requires at { At self.now variable node }
-        ensures { MatchOption result (so_far self.now variable node ≡ listing (filled self.now) variable self.now.slots) (Next self.now variable node) }
+    // The slot that comes after another one in its list, if any.
+    pub(super) fn after(&self, slot: usize) -> Option<usize>
+        requires { slot < length (filled self.now) }
+        ensures { result ≡ next_from (filled self.now) (slice_index (filled self.now) slot) (slot + 1) (length (filled self.now)) }
     {
-        if node == self.last[variable] {
-            return None;
-        }
-        Some(self.next[node])
+        self.slots[slot].next
     }
 
-    // Appends a slot to those of a variable.
-    fn link(&mut self, variable: usize)
-        requires known { variable < list_count }
-        requires open { self.old.slots < most_slots }
-        ensures slots { self.new.slots ≡ self.old.slots + 1 }
-        ensures filled { filled self.new ≡ slice_set (filled self.old) self.old.slots variable }
+    // Appends a slot to a list.
+    fn link(&mut self, list: usize)
+        requires known { list < list_count }
+        requires free { length (filled self.old) < most_slots }
+        ensures { filled self.new ≡ filled self.old ++ list ∷ [] }
     {
-        let slot = self.slots;
-        let before = self.last[variable];
-        self.variable[slot] = variable;
-        self.previous[slot] = before;
-        self.next[before] = slot;
-        self.last[variable] = slot;
-        self.slots += 1;
+        let slot = self.slots.len();
+        let previous = self.ends[list].last;
+        lead(&mut self.slots, &mut self.ends, list, previous, Some(slot));
+        self.ends[list].last = Some(slot);
+        self.slots.push_reserved(Slot {
+            list,
+            previous,
+            next: None,
+        });
     }
 
-    // Takes the newest slot back.
+    // Takes the newest slot back, if any.
     fn unlink(&mut self)
-        requires { 0 < self.old.slots }
-        ensures slots { self.new.slots + 1 ≡ self.old.slots }
-        ensures filled { filled self.new ≡ filled self.old }
+        ensures { filled self.new ≡ take (length (filled self.old) - 1) (filled self.old) }
     {
-        self.slots -= 1;
-        let variable = self.variable[self.slots];
-        self.last[variable] = self.previous[self.slots];
+        if let Some(Slot { list, previous, .. }) = self.slots.pop() {
+            lead(&mut self.slots, &mut self.ends, list, previous, None);
+            self.ends[list].last = previous;
+        }
     }
 }

@@ -2,7 +2,7 @@ ghost use Rattle.std.specs.Prelude.{◌≡◌, ℕ, ◌+◌, ◌*◌, ◌<◌, �
 ghost use Rattle.flows.specs.Bounds.{bound};
 ghost use Rattle.flows.specs.Flows.{flow, inside};
 ghost use Rattle.flows.specs.Limits.{most_variables, most_flows, most_bounds};
-ghost use Rattle.flows.specs.Reading.{filled, first_list, second_list};
+ghost use Rattle.flows.specs.Reading.{filled, both_lists};
 
 use super::flow::{Bound, BoundNumber, Flow, FlowNumber, Variable};
 use super::readers::Readers;
@@ -28,6 +28,7 @@ pub struct Counts {
 // the count of variables. All memory is got at first.
 #[derive(Drop)]
 pub struct Network {
+    // Stays beside the tables and is written whole, a rule of the project: a small record, each count within its limit.
     pub(super) counts: Counts,
     pub(super) flows: Vec<Flow>,
     pub(super) bounds: Vec<Bound>,
@@ -38,7 +39,5 @@ pub struct Network {
     ghost bound_room: { most_bounds ≤ vec_capacity bounds },
     ghost closed: { (i : ℕ) → i < vec_len flows → inside counts.variables (flow flows.items i) ≡ true },
     ghost bounded: { (i : ℕ) → i < vec_len bounds → (bound bounds.items i).variable < counts.variables },
-    ghost indexed: { readers.slots ≡ 2 * vec_len flows },
-    ghost first: { (n : ℕ) → n < vec_len flows → slice_index (filled readers) (2 * n) ≡ first_list (flow flows.items n).rule },
-    ghost second: { (n : ℕ) → n < vec_len flows → slice_index (filled readers) (2 * n + 1) ≡ second_list (flow flows.items n).rule },
+    ghost indexed: { filled readers ≡ both_lists flows.items },
 }

@@ -2,20 +2,12 @@ ghost use Rattle.std.specs.Prelude.{◌≡◌, ◌-◌, ◌<◌, ◌≤◌, [], 
 ghost use Rattle.flows.specs.Limits.{most_flows};
 ghost use Rattle.flows.specs.Pending.{pending};
 ghost use Rattle.flows.specs.Queues.{joined, numbered};
-ghost use Rattle.flows.specs.Rings.{place};
 
+use super::flow::FlowNumber;
 use super::network::MOST_FLOWS;
 use super::queue::Queue;
+use circular_buffer::HeapCircularBuffer;
 use std::alloc::{AllocError, Global};
-
-// Where entry `k` of the ring lies whose first entry lies at `head`.
-fn entry_at(head: usize, k: usize) -> usize
-    requires { head ≤ most_flows }
-    ensures { result ≡ place most_flows head k }
-{
-    let rest = MOST_FLOWS as usize - head;
-    if k < rest { head + k } else { k - rest }
-}
 
 impl Queue {
     // An empty queue.
@@ -23,42 +15,33 @@ impl Queue {
         ensures { IfOk result (λ q. pending q ≡ []) }
     {
         Ok(Queue {
-            ring: vec![in heap; 0; MOST_FLOWS as usize]?,
-            head: 0,
-            len: 0,
+            order: HeapCircularBuffer::with_capacity(heap, MOST_FLOWS as usize)?,
             waiting: vec![in heap; false; MOST_FLOWS as usize]?,
         })
     }
 
     // Appends a flow unless it waits already.
-    pub(super) fn push(&mut self, number: usize)
+    pub(super) fn push(&mut self, number: FlowNumber)
         requires { number < most_flows }
         ensures { pending self.new ≡ joined (pending self.old) number }
     {
-        if !self.waiting[number] {
-            let at = entry_at(self.head, self.len);
-            self.ring[at] = number;
-            self.waiting[number] = true;
-            self.len += 1;
+        if !self.waiting[number as usize] {
+            self.waiting[number as usize] = true;
+            self.order.push_back(number);
         }
     }
 
     // The flow that has waited longest, which leaves the queue.
-    pub(super) fn pop(&mut self) -> Option<usize>
+    pub(super) fn pop(&mut self) -> Option<FlowNumber>
         ensures { MatchOption result ((pending self.old ≡ []) × (pending self.new ≡ [])) (λ i. pending self.old ≡ i ∷ pending self.new) }
     {
-        if self.len == 0 {
-            return None;
-        }
-        let number = self.ring[self.head];
-        self.waiting[number] = false;
-        self.head = entry_at(self.head, 1);
-        self.len -= 1;
+        let number = self.order.pop_front()?;
+        self.waiting[number as usize] = false;
         Some(number)
     }
 
     // Appends the flows from one number up to another, in order, to an empty queue.
-    pub(super) fn fill(&mut self, from: usize, to: usize)
+    pub(super) fn fill(&mut self, from: FlowNumber, to: FlowNumber)
         requires idle { pending self.old ≡ [] }
         requires few { to ≤ most_flows }
         ensures { pending self.new ≡ numbered from (to - from) }
@@ -72,6 +55,7 @@ impl Queue {
     pub(super) fn clear(&mut self)
         ensures { pending self.new ≡ [] }
     {
-        while let Some(_) = self.pop() {}
+        self.order.clear();
+        self.waiting.fill(false);
     }
 }

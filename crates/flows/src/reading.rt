@@ -3,7 +3,7 @@ ghost use Rattle.flows.specs.Bounds.{bound};
 ghost use Rattle.flows.specs.Flows.{flow};
 ghost use Rattle.flows.specs.Networks.{contents, Counted};
 
-use super::flow::{Bound, BoundNumber, Flow};
+use super::flow::{Bound, BoundNumber, Flow, FlowNumber};
 use super::network::{Counts, Network};
 
 impl Network {
@@ -15,11 +15,11 @@ impl Network {
     }
 
     // The flow with a number.
-    pub(super) fn flow(&self, number: usize) -> Flow
+    pub(super) fn flow(&self, number: FlowNumber) -> Flow
         requires { number < length (contents self.now).flows }
         ensures { result ≡ flow (contents self.now).flows number }
     {
-        self.flows[number]
+        self.flows[number as usize]
     }
 
     // The bound with a number.

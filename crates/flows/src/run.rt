@@ -4,24 +4,30 @@ ghost use Rattle.flows.specs.Limits.{most_flows};
 ghost use Rattle.flows.specs.Networks.{contents};
 ghost use Rattle.flows.specs.Pending.{pending};
 ghost use Rattle.flows.specs.Queues.{waits};
+ghost use Rattle.flows.specs.Running.{Continues};
 ghost use Rattle.flows.specs.Runs.{applied, woken, Evaluates, Ends};
 
-use super::flow::{Flow, Rule, Variable};
+use super::flow::{Flow, FlowNumber, Rule, Variable};
 use super::network::Network;
 use super::queue::Queue;
+use super::running::Running;
 use kinds::kind::Kind;
 
-// The value of a variable; an absent one, or one past the last, has bottom.
+// The value of a variable; one past the last has bottom.
+pub(super) fn value_of<K: Kind>(values: &[K], variable: Variable) -> K
+    ensures { result ≡ held K.Kind values.now variable }
+{
+    values
+        .get(variable as usize)
+        .copied()
+        .unwrap_or(K::bottom())
+}
+
+// The value of a source; an absent one has bottom.
 fn source<K: Kind>(values: &[K], variable: Option<Variable>) -> K
     ensures { result ≡ operand K.Kind (held K.Kind values.now) variable }
 {
-    match variable {
-        Some(v) => match values.get(v as usize) {
-            Some(x) => *x,
-            None => K::bottom(),
-        },
-        None => K::bottom(),
-    }
+    variable.map_or(K::bottom(), |variable| value_of(values, variable))
 }
 
 // What a rule brings to its target.
@@ -56,47 +62,41 @@ impl Network {
         requires { variable < (contents self.now).variables }
         ensures { pending queue.new ≡ pending queue.old ++ woken (contents self.now).flows variable (pending queue.old) (length (contents self.now).flows) }
     {
-        let variable = variable as usize;
-        let mut node = self.readers.start(variable);
-        while let Some(slot) = self.readers.after(variable, node) {
-            queue.push(slot / 2);
-            node = slot;
+        let mut next = self.readers.first(variable);
+        while let Some(slot) = next {
+            queue.push((slot / 2) as FlowNumber);
+            next = self.readers.after(slot);
         }
     }
 }
 
-// One evaluation of a flow that has left the queue: if it is not met it is applied, a rise, and the flows that read its
-// target join the queue. Answers whether it rose.
-pub(super) fn evaluate<K: Kind>(
-    values: &mut [K],
-    network: &Network,
-    queue: &mut Queue,
-    number: usize,
-) -> bool
-    requires number { number < length (contents network.now).flows }
-    requires room { (contents network.now).variables ≤ length values.old }
-    ensures { Evaluates K.Kind (contents network.now).flows number values.old (pending queue.old) result values.new (pending queue.new) }
-{
-    let flow = network.flow(number);
-    let rose = raise(values, flow);
-    if rose {
-        network.wake(queue, flow.target);
+impl<K: Kind> Running<'_, '_, '_, K> {
+    // One evaluation of a flow that has left the queue: if it is not met it is applied, a rise, and the flows that read its
+    // target join the queue. Answers whether it rose.
+    pub(super) fn evaluate(&mut self, number: FlowNumber) -> bool
+        requires { number < length (contents self.old.network.now).flows }
+        ensures continues { Continues K.Kind self.old self.new }
+        ensures evaluates { Evaluates K.Kind (contents self.old.network.now).flows number self.old.values.now (pending self.old.queue.now) result self.new.values.now (pending self.new.queue.now) }
+    {
+        let flow = self.network.flow(number);
+        let rose = raise(self.values, flow);
+        if rose {
+            self.network.wake(self.queue, flow.target);
+        }
+        rose
     }
-    rose
-}
 
-// Evaluates the flows that wait, oldest first, until none does. Answers the number of evaluations.
-pub(super) fn run<K: Kind>(values: &mut [K], network: &Network, queue: &mut Queue) -> usize
-    requires room { (contents network.now).variables ≤ length values.old }
-    requires known { (i : ℕ) → waits i (pending queue.old) ≡ true → i < length (contents network.now).flows }
-    requires few { length (pending queue.old) ≤ most_flows }
-    ensures ends { Ends K.Kind (contents network.now).flows values.old (pending queue.old) result values.new }
-    ensures idle { pending queue.new ≡ [] }
-{
-    let mut evaluations = 0;
-    while let Some(number) = queue.pop() {
-        evaluate(values, network, queue, number);
-        evaluations += 1;
+    // Evaluates the flows that wait, oldest first, until none does. Answers the number of evaluations.
+    pub(super) fn finish(&mut self) -> usize
+        ensures continues { Continues K.Kind self.old self.new }
+        ensures ends { Ends K.Kind (contents self.old.network.now).flows self.old.values.now (pending self.old.queue.now) result self.new.values.now }
+        ensures idle { pending self.new.queue.now ≡ [] }
+    {
+        let mut evaluations = 0;
+        while let Some(number) = self.queue.pop() {
+            self.evaluate(number);
+            evaluations += 1;
+        }
+        evaluations
     }
-    evaluations
 }

@@ -5,7 +5,7 @@ ghost use Rattle.flows.specs.Settling.{Settles};
 use super::flow::FlowNumber;
 use super::network::Network;
 use super::queue::Queue;
-use super::run::run;
+use super::running::Running;
 use super::worklist::Worklist;
 use kinds::kind::Kind;
 use std::alloc::{AllocError, Global};
@@ -28,8 +28,12 @@ impl Worklist {
         requires { (contents network.now).variables ≤ length values.old }
         ensures { Settles K.Kind (contents network.now).flows from values.old result values.new }
     {
-        self.queue
-            .fill(from as usize, network.counts.flows as usize);
-        run(values, network, &mut self.queue)
+        self.queue.fill(from, network.counts.flows);
+        let mut run = Running {
+            network,
+            values,
+            queue: &mut self.queue,
+        };
+        run.finish()
     }
 }

@@ -31,6 +31,11 @@ const QUEUE: Variable = 6;
 
 const VARIABLES: usize = 7;
 
+// What the variables are called.
+const NAMES: [&str; VARIABLES] = [
+    "counted", "limit", "lane", "typed", "first", "second", "queue",
+];
+
 const LIST: usize = 16;
 
 // What is settled so far.
@@ -56,23 +61,7 @@ fn moved(from: Variable, to: Variable) -> Flow {
 }
 
 fn bottoms<K: Kind>(heap: Global) -> Result<Vec<K>, AllocError> {
-    let mut values = Vec::new(heap);
-    for _ in 0..VARIABLES {
-        values.push(K::bottom())?;
-    }
-    Ok(values)
-}
-
-fn name_of(variable: usize) -> &'static str {
-    match variable {
-        0 => "counted",
-        1 => "limit",
-        2 => "lane",
-        3 => "typed",
-        4 => "first",
-        5 => "second",
-        _ => "queue",
-    }
+    vec![in heap; K::bottom(); VARIABLES]
 }
 
 // A name, behind a comma where it is not the first.
@@ -102,8 +91,7 @@ fn show_names<K: Kind>(rt: &impl Print, value: K) -> io::Result<()> {
 }
 
 fn show_values<K: Kind>(rt: &impl Print, values: &[K]) -> io::Result<()> {
-    for (variable, value) in values.iter().enumerate() {
-        let name = name_of(variable);
+    for (name, value) in NAMES.iter().zip(values) {
         print!(rt; "  {name} ")?;
         show_names(rt, *value)?;
     }
@@ -113,7 +101,6 @@ fn show_values<K: Kind>(rt: &impl Print, values: &[K]) -> io::Result<()> {
 fn show_rises(rt: &impl Print, rises: &[FlowNumber]) -> io::Result<()> {
     print!(rt; "  rises")?;
     for number in rises {
-        let number = *number;
         print!(rt; " {number}")?;
     }
     println!(rt; "")
@@ -211,7 +198,7 @@ impl<K: Kind> Junction<K> {
 
     // After flows were taken back: the least values again, from bottom.
     fn settle_anew(&mut self) -> anyhow::Result<()> {
-        for value in self.values.iter_mut() {
+        for value in &mut self.values {
             *value = K::bottom();
         }
         self.settle(0)?;

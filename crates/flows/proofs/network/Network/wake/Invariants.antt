@@ -1,15 +1,18 @@
-use Rattle.std.proofs.Common.{◌≡◌, ◌-◌, fold}
-use Rattle.flows.specs.Limits.{most_slots}
-use Rattle.flows.specs.Links.{passed}
+use Rattle.std.proofs.Common.{◌≡◌, ℕ, ◌≤◌, length, fold}
+use Rattle.flows.specs.Links.{next_from, listing}
 use Rattle.flows.specs.Pending.{pending}
 use Rattle.flows.specs.Queues.{joined}
-use Rattle.flows.specs.Reading.{At, so_far}
+use Rattle.flows.specs.Reading.{filled}
+use Rattle.flows.proofs.Links.{left}
 use Rattle.flows.proofs.network.Network.wake.Given as goal
 
-abbrev pub invariant-loop-slot : goal.invariant-loop-slot
-invariant-loop-slot l =
-    At l.self.readers l.variable l.node
-    × (pending l.queue ≡ fold joined (pending l.initial.queue) (so_far l.self.readers l.variable l.node))
+abbrev pub invariant-loop-next : goal.invariant-loop-next
+invariant-loop-next l = record {
+  from : ℕ;
+  low : from ≤ length (filled l.self.readers);
+  at : l.next ≡ next_from (filled l.self.readers) l.variable from (length (filled l.self.readers));
+  queued : pending l.queue ≡ fold joined (pending l.initial.queue) (listing (filled l.self.readers) l.variable from);
+}
 
-abbrev pub decreases-loop-slot : goal.decreases-loop-slot
-decreases-loop-slot l = l.self.readers.slots - passed most_slots l.node
+abbrev pub decreases-loop-next : goal.decreases-loop-next
+decreases-loop-next l = left (length (filled l.self.readers)) l.next

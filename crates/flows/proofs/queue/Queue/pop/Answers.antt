@@ -1,28 +1,19 @@
-use Rattle.std.proofs.Common.{◌<◌, sym, refl, subst}
-use Rattle.flows.proofs.Turns.{Popped, popped}
+use Rattle.std.proofs.Common.{◌≡◌, ◌∷◌, vec_items, subst, rules, arith}
+use Rattle.flows.specs.Pending.{pending}
+use Rattle.flows.specs.Queues.{Marks}
+use Rattle.flows.proofs.Flags.{pop_known, pop_flags}
 use Rattle.flows.proofs.queue.Queue.pop.Goals as goal
-use Rattle.flows.proofs.queue.Queue.pop.Goals.{After-entry_at-self}
+use Rattle.flows.proofs.queue.Queue.pop.Goals.{In_ok-number}
+
+left : (c : In_ok-number) → Marks (c.in_ok-number.number ∷ c.pop_front.new.self.items) (vec_items c.args.self.now.waiting)
+left c =
+    let items : pending c.args.self.now ≡ c.in_ok-number.number ∷ c.pop_front.new.self.items = search rules in
+    subst (λ xs. Marks xs (vec_items c.args.self.now.waiting)) items c.args.self.now.marks
 
 pub index_mut-requires : goal.index_mut-requires
 index_mut-requires c =
-    let q = c.args.self.now in
-    subst (λ n. c.index-number.result.now < n) (sym q.flagged) (popped q _ _ c.if-self-eq0.false c.index-number.ensures refl).known
+    let long = c.args.self.now.waiting.ok.0 in
+    omega (arith, pop_known (left (goal.at.index_mut-requires c).In_ok-number))
 
-leaves : (c : After-entry_at-self) → Popped c.args.self.now c.index-number.result.now c.entry_at-self.result
-leaves c = popped c.args.self.now _ _ c.if-self-eq0.false c.index-number.ensures c.entry_at-self.ensures
-
-pub invariant_of-self : goal.invariant_of-self
-invariant_of-self c =
-    let kept = (leaves c).kept in
-    let q = c.args.self.now in
-    record {
-      flags = kept.flags;
-      once = kept.once;
-      counted = kept.counted;
-      placed = q.placed;
-      flagged = q.flagged;
-      started = (leaves c).starts;
-    }
-
-pub returns : goal.returns
-returns c = (leaves (goal.at.returns c).After-entry_at-self).items
+pub invariant_of-self-2-clause-marks : goal.invariant_of-self-2-clause-marks
+invariant_of-self-2-clause-marks c = pop_flags (left (goal.at.invariant_of-self-2-clause-marks c).In_ok-number)

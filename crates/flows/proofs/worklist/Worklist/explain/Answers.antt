@@ -1,15 +1,14 @@
-use Rattle.std.proofs.Common.{◌≡◌, ◌-◌, [], length, vec_items, sym, refl, ap, ◌∙◌, subst, arith}
+use Rattle.std.proofs.Common.{◌≡◌, ◌-◌, [], length, vec_items, sym, refl, ap, ◌∙◌, subst, List, rules, arith}
 use Rattle.flows.specs.Bounds.{Lowest}
-use Rattle.flows.specs.Explaining.{Breaks, at_start, bottoms, Traced}
+use Rattle.flows.specs.Explaining.{Breaks, at_start, bottoms, Traced, Explained}
 use Rattle.flows.specs.Flows.{held}
 use Rattle.flows.specs.Pending.{pending}
 use Rattle.flows.specs.Queues.{waits, numbered}
-use Rattle.flows.proofs.Built.{targets, few, flows_long}
+use Rattle.flows.proofs.Built.{targets, flows_long}
 use Rattle.flows.proofs.Explained.{explained, from_bottom}
-use Rattle.flows.proofs.Queues.{numbered_length}
 use Rattle.flows.proofs.worklist.Worklist.explain.Given as given
 use Rattle.flows.proofs.worklist.Worklist.explain.Goals as goal
-use Rattle.flows.proofs.worklist.Worklist.explain.Goals.{After-fill}
+use Rattle.flows.proofs.worklist.Worklist.explain.Goals.{After-fill, After-trace-explanation}
 
 queued : (g : given.Over) (c : After-fill g) → pending c.fill.new.self ≡ numbered 0 (length (vec_items c.args.network.now.flows))
 queued g c =
@@ -34,20 +33,19 @@ returns-in-Some g c =
       listed = refl;
     })
 
-pub trace-explanation-requires : goal.trace-explanation-requires
-trace-explanation-requires g c =
+pub invariant_of-run : goal.invariant_of-run
+invariant_of-run g c =
     let n = c.args.network.now in
-    let flows = vec_items n.flows in
-    let queue = queued g (goal.at.trace-explanation-requires g c).After-fill in
     record {
       room = omega (arith, c.requires, ap length c.reset.ensures);
-      known = λ i w. (from_bottom g.K.Kind flows _ (targets n _ c.requires)).known i (sym (ap (waits i) queue) ∙ w);
-      few = omega (arith, few n, ap length queue, numbered_length 0 (length flows));
-      unbroken = c.in_default.ensures.lowest;
+      known = λ i w. (from_bottom g.K.Kind (vec_items n.flows) _ (targets n _ c.requires)).known i (sym (ap (waits i) (queued g (goal.at.invariant_of-run g c).After-fill)) ∙ w);
     }
 
-pub returns : goal.returns
-returns g c =
+told : (g : given.Over) (c : After-trace-explanation g) (after : List g.row.K.Denot)
+    → pending c.fill.new.self ≡ numbered 0 (length (vec_items c.args.network.now.flows))
+    → c.trace-explanation.new.self.values.now ≡ after
+    → Explained g.K.Kind (vec_items c.args.network.now.flows) (vec_items c.args.network.now.bounds) (length c.args.values.now) c.trace-explanation.result.bound c.trace-explanation.result.rises c.args.list.now c.trace-explanation.new.list after
+told g c after queue same =
     let kind = g.K.Kind in
     let n = c.args.network.now in
     let flows = vec_items n.flows in
@@ -55,7 +53,11 @@ returns g c =
     let e = c.trace-explanation.result in
     let list = c.args.list.now in
     let list' = c.trace-explanation.new.list in
-    let after = c.trace-explanation.new.values in
+    let start = bottoms kind (length c.args.values.now) in
     explained kind g.met.K.Kind.lawful flows bounds _ _ _ _ _ _ (targets n _ c.requires)
-    (subst (λ q. Traced kind flows bounds (bottoms kind (length c.args.values.now)) q e.bound e.rises list list' after) (queued g (goal.at.returns g c).After-fill)
-    (subst (λ vs. Traced kind flows bounds vs (pending c.fill.new.self) e.bound e.rises list list' after) c.reset.ensures c.trace-explanation.ensures))
+    (subst (Traced kind flows bounds start (numbered 0 (length flows)) e.bound e.rises list list') same
+    (subst (λ q. Traced kind flows bounds start q e.bound e.rises list list' c.trace-explanation.new.self.values.now) queue
+    (subst (λ vs. Traced kind flows bounds vs (pending c.fill.new.self) e.bound e.rises list list' c.trace-explanation.new.self.values.now) c.reset.ensures c.trace-explanation.ensures.traced)))
+
+pub returns : goal.returns
+returns g c = let here = goal.at.returns g c in told g here.After-trace-explanation _ (queued g here.After-fill) (search rules)

@@ -1,0 +1,16 @@
+use Rattle.std.proofs.Common.{ℕ, ◌+◌, List, length, vec_items}
+use Rattle.flows.specs.Flows.{held}
+use Rattle.flows.specs.Pending.{pending}
+use Rattle.flows.specs.Running.{Continues}
+use Rattle.flows.specs.Runs.{Run}
+use Rattle.flows.proofs.Budget.{budget}
+use Rattle.flows.proofs.running.Running.finish.Given as goal
+
+abbrev pub invariant-loop-number : goal.invariant-loop-number
+invariant-loop-number g l = record {
+  continues : Continues g.K.Kind l.initial.self l.self;
+  run : (risen : List ℕ) × Run g.K.Kind (vec_items l.initial.self.network.now.flows) l.initial.self.values.now (pending l.initial.self.queue.now) l.self.values.now (pending l.self.queue.now) l.evaluations risen;
+}
+
+abbrev pub decreases-loop-number : goal.decreases-loop-number
+decreases-loop-number g l = length (pending l.self.queue.now) + budget g.K.Kind (vec_items l.fn.self.network.now.flows) (held g.K.Kind l.self.values.now)
