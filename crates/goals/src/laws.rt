@@ -1,17 +1,13 @@
-// Theorems about the grammar. What these functions answer means nothing.
+// Theorems about the grammar: functions that do nothing, whose contracts say them.
 ghost use Rattle.goals.specs.Theorems.{Unambiguous, Answered, Single};
 
 // Some tokens have at most one tree.
-pub fn unambiguous() -> u8
+pub fn unambiguous()
     ensures { Unambiguous }
-{
-    0
-}
+{}
 
 // Any tokens come to a tree or to a refusal, and to one only.
-pub fn one_outcome() -> u8
+pub fn one_outcome()
     ensures some { Answered }
     ensures only { Single }
-{
-    0
-}
+{}

@@ -1,59 +1,69 @@
 -- How the parts of an expression lead on, and what is read with them. Assumes nothing.
-use Rattle.std.proofs.Common.{◌≡◌, ℕ, ◌+◌, ◌≤◌, List, [], ◌∷◌, ◌++◌, length, Some, None, Ok, Err, Option, Result, sym, refl, ap, ◌∙◌, arith, Bor}
+use Rattle.std.proofs.Common.{◌≡◌, ℕ, ◌+◌, ◌<◌, ◌≤◌, List, [], ◌∷◌, length, Some, Ok, Err, Result, sym, refl, ap, ◌∙◌, subst, arith, Bor}
 use Rattle.tokens.specs.declared.token.Token.{Token}
 use Rattle.tokens.specs.declared.token.Word.TheVariants as kw
 use Rattle.tokens.specs.declared.token.Symbol.TheVariants as sg
 use Rattle.tokens.specs.Tokens.{word, symbol, Placed}
-use Rattle.tokens.specs.Meanings.{placed}
 use Rattle.syntax.specs.declared.tree.Exp.{Exp}
-use Rattle.syntax.specs.declared.tree.Args.{Args}
-use Rattle.syntax.specs.declared.tree.Vals.{Vals}
-use Rattle.syntax.specs.declared.tree.Lexeme.{Lexeme}
+use Rattle.syntax.specs.declared.tree.Operator.{Operator}
+use Rattle.syntax.specs.Meanings.{tree_of}
 use Rattle.syntax.specs.Sorts.{at, After}
-use Rattle.goals.specs.Goals.{Goal, Goals, one, exp, sum, app, atom, args, vals, level, args_goals, vals_goals}
-use Rattle.goals.specs.Begins.{atom_begins, app_begins}
+use Rattle.syntax.specs.Grammar.{class, Spans}
+use Rattle.goals.specs.Goals.{Goal, Goals, one, exp, sum, level}
 use Rattle.goals.specs.Machine.{more_levels, levels, fate}
-use Rattle.goals.proofs.Steps.{on, steps, word_taken, level_ends}
+use Rattle.goals.proofs.Steps.{steps, word_taken, level_ends, sum_opens, term_opens}
 use Rattle.pieces.specs.declared.fault.Fault.{Fault}
 use Rattle.pieces.specs.declared.fault.Fault.TheVariants.{Misplaced, TooDeep, Memory}
-use Rattle.pieces.specs.Seen.{seen, apart}
-use Rattle.pieces.specs.Looking.{GoesOn, Headed}
-use Rattle.pieces.specs.Reading.{Leads, Failed, Deeper, Reads, ReadsArgs, ReadsVals, Extends}
-use Rattle.pieces.specs.Making.{Chosen, Mores, BindsLast, BindsMore}
+use Rattle.pieces.specs.Seen.{seen, left}
+use Rattle.pieces.specs.Reading.{Leads, Failed, Deeper, Reads}
+use Rattle.pieces.specs.declared.looking.Tier.{Tier}
+use Rattle.pieces.specs.declared.looking.Tier.TheVariants as by
+use Rattle.pieces.specs.Looking.{Operates}
+use Rattle.pieces.specs.Taking.{strength_of, part_strength, whole_of, more_of, part_of}
+use Rattle.pieces.specs.Making.{Made, Joined, Chosen}
 
--- g is h and then r
-module _ (end depth : ℕ) (g h r : Goal) (flat : (n : ℕ) → more_levels r n ≡ n) (is : (S : Goals) (ts : List Placed) → fate end (g ∷ S) ts ≡ fate end (h ∷ r ∷ S) ts) where
-  pub first_fails : (ts : List Placed) (e : Fault) → Failed end depth (h ∷ []) ts e → Failed end depth (g ∷ []) ts e
-  first_fails ts (Misplaced p) f = λ S d few. is S ts ∙ f (r ∷ S) (flat (levels S) ∙ d) (omega (arith, flat (levels S), few))
-  first_fails ts (TooDeep p) f = λ S d few. is S ts ∙ f (r ∷ S) (flat (levels S) ∙ d) (omega (arith, flat (levels S), few))
-  first_fails ts Memory f = tt
+-- the whole of a tier is a part and then more
+opens_with : (tier : Tier) (end : ℕ) (S : Goals) (ts : List Placed) → fate end (whole_of tier ∷ S) ts ≡ fate end (part_of tier ∷ more_of tier ∷ S) ts
+opens_with by.Sum end S ts = sum_opens end S ts
+opens_with by.Term end S ts = term_opens end S ts
 
-  pub both_read : (less most : ℕ) → less ≤ most → (ts : List Placed) (x : Exp × Bor (List Token)) (y : Result (Exp × Bor (List Token)) Fault) → Reads end less depth h ts (Ok x) → Extends end most depth r x.0 (seen x.1) y → Reads end most depth g ts y
-  both_read less most le ts x (Ok y) a b = (
-    b.0 (omega (arith, a.0, le)),
-    b.1 ts (omega (arith, a.0, le)) a.1,
-    omega (arith, a.2, b.2),
-    λ S d few. is S ts ∙ a.3 (r ∷ S) (flat (levels S) ∙ d) (omega (arith, flat (levels S), few)) ∙ b.3 S d few,
-  )
-  both_read less most le ts x (Err (Misplaced p)) a b = λ S d few. is S ts ∙ a.3 (r ∷ S) (flat (levels S) ∙ d) (omega (arith, flat (levels S), few)) ∙ b S d few
-  both_read less most le ts x (Err (TooDeep p)) a b = λ S d few. is S ts ∙ a.3 (r ∷ S) (flat (levels S) ∙ d) (omega (arith, flat (levels S), few)) ∙ b S d few
-  both_read less most le ts x (Err Memory) a b = tt
+flat_more : (tier : Tier) (n : ℕ) → more_levels (more_of tier) n ≡ n
+flat_more by.Sum n = refl
+flat_more by.Term n = refl
 
--- what begins no call, no `ref` and no `!` begins an app as it begins an atom
-abbrev pub AtomFirst : Option (Token × Bor (List Token)) → Type 0
-AtomFirst None = Unit {0}
-AtomFirst (Some x) = app_begins (placed x.0).tok ≡ atom_begins (placed x.0).tok
+weaker : (tier : Tier) → part_strength tier < strength_of tier
+weaker by.Sum = omega arith
+weaker by.Term = omega arith
 
-atom_fate : (end : ℕ) (ts : List Placed) (o : Option (Token × Bor (List Token))) → ts ≡ apart o → AtomFirst o → (S : Goals) → fate end (app ∷ S) ts ≡ fate end (atom ∷ S) ts
-atom_fate end ts None is first S = ap (fate end (app ∷ S)) is ∙ sym (ap (fate end (atom ∷ S)) is)
-atom_fate end ts (Some x) is first S =
-    ap (fate end (app ∷ S)) is ∙ ap (λ gs. on end x.0.place (seen x.1) (elim gs [ Some hs ↦ Some (hs ++ S) | None ↦ None ])) first ∙ sym (ap (fate end (atom ∷ S)) is)
+pub chain_fails : (tier : Tier) (end depth : ℕ) (ts : List Placed) (e : Fault) → Failed end depth (part_of tier ∷ []) ts e → Failed end depth (whole_of tier ∷ []) ts e
+chain_fails tier end depth ts (Misplaced p) f = λ S d few. opens_with tier end S ts ∙ f (more_of tier ∷ S) (flat_more tier (levels S) ∙ d) (omega (arith, flat_more tier (levels S), few))
+chain_fails tier end depth ts (TooDeep p) f = λ S d few. opens_with tier end S ts ∙ f (more_of tier ∷ S) (flat_more tier (levels S) ∙ d) (omega (arith, flat_more tier (levels S), few))
+chain_fails tier end depth ts Memory f = tt
 
-pub atom_read : (end depth : ℕ) (ts : List Placed) (o : Option (Token × Bor (List Token))) (x : Result (Exp × Bor (List Token)) Fault) → ts ≡ apart o → AtomFirst o → Reads end 0 depth atom ts x → Reads end 1 depth app ts x
-atom_read end depth ts o (Ok x) is first a = (omega (arith, a.0), a.1, a.2, λ S d few. atom_fate end ts o is first S ∙ a.3 S d few)
-atom_read end depth ts o (Err (Misplaced p)) is first a = λ S d few. atom_fate end ts o is first S ∙ a S d few
-atom_read end depth ts o (Err (TooDeep p)) is first a = λ S d few. atom_fate end ts o is first S ∙ a S d few
-atom_read end depth ts o (Err Memory) is first a = tt
+-- a tree that was read of a tier, behind which more may follow
+abbrev pub SoFar : ℕ → ℕ → Tier → List Placed → Exp → List Placed → Type 0
+SoFar end depth tier ts e m =
+    (class (tree_of e) ≤ strength_of tier) × Spans (tree_of e) ts m × (length m < length ts) × Leads end depth (whole_of tier ∷ []) ts (more_of tier ∷ []) m
+
+pub chain_first : (tier : Tier) (end depth : ℕ) (ts : List Placed) (x : Exp × Bor (List Token)) → Reads end (part_strength tier) depth (part_of tier) ts (Ok x) → SoFar end depth tier ts x.0 (seen x.1)
+chain_first tier end depth ts x a = (
+  omega (arith, a.0, weaker tier),
+  a.1,
+  a.2,
+  λ S d few. opens_with tier end S ts ∙ a.3 (more_of tier ∷ S) (flat_more tier (levels S) ∙ d) (omega (arith, flat_more tier (levels S), few)),
+)
+
+pub chain_more : (tier : Tier) (end depth : ℕ) (ts m : List Placed) (a b e : Exp) (o : (ℕ × Operator) × Bor (List Token)) (rest : Bor (List Token)) → SoFar end depth tier ts a m → Operates (strength_of tier) end (more_of tier) (part_of tier) m (Some o) → Reads end (part_strength tier) depth (part_of tier) (seen o.1) (Ok (b, rest)) → Joined a o.0.0 o.0.1 b e → SoFar end depth tier ts e (seen rest)
+chain_more tier end depth ts m a b e o rest before op next made = (
+  omega (arith, made.0, op.0),
+  made.1 ts (seen o.1) (seen rest) (omega (arith, before.0, op.0)) (subst (λ l. Spans (tree_of a) ts l) op.1 before.1) (omega (arith, next.0, op.0, weaker tier)) next.1,
+  omega (arith, before.2, ap length op.1, next.2),
+  λ S d few. before.3 S d few ∙ op.2 S few ∙ next.3 (more_of tier ∷ S) (flat_more tier (levels S) ∙ d) (omega (arith, flat_more tier (levels S), few)),
+)
+
+-- what was read with the same end
+pub same_end : (end most depth : ℕ) (g : Goal) (ts : List Placed) (x : Result (Exp × Bor (List Token)) Fault) (n : ℕ) → n ≡ end → Reads n most depth g ts x → Reads end most depth g ts x
+same_end end most depth g ts x n e a = subst (λ k. Reads k most depth g ts x) e a
 
 module _ (end depth inner place : ℕ) (deep : Deeper depth (Some inner)) (ts : List Placed) (ra rb rc rd : Exp × Bor (List Token)) (s t u : List Placed) (a : Reads end 3 inner sum ts (Ok ra)) (less : After (symbol sg.Less) (seen ra.1) s) (b : Reads end 3 inner sum s (Ok rb)) (then : After (word kw.Then) (seen rb.1) t) (c : Reads end 4 inner exp t (Ok rc)) (else : After (word kw.Else) (seen rc.1) u) (d : Reads end 4 inner exp u (Ok rd)) where
   if_leads : Leads end depth (exp ∷ []) (at place (word kw.If) ∷ ts) [] (seen rd.1)
@@ -74,33 +84,11 @@ module _ (end depth inner place : ℕ) (deep : Deeper depth (Some inner)) (ts : 
       ∙ d.3 after-d as-deep low
       ∙ level_ends end S (seen rd.1)
 
-  pub if_reads : (v : Exp) → Chosen place ra.0 rb.0 rc.0 rd.0 v → Reads end 4 depth exp (at place (word kw.If) ∷ ts) (Ok (v, rd.1))
-  if_reads v made = (
+  pub if_reads : (r : Result Exp Fault) → Made (Chosen place ra.0 rb.0 rc.0 rd.0) r → Reads end 4 depth exp (at place (word kw.If) ∷ ts) (left r rd.1)
+  if_reads (Err e) made = subst (λ k. Failed end depth (exp ∷ []) (at place (word kw.If) ∷ ts) k) (sym made) tt
+  if_reads (Ok v) made = (
     omega (arith, made.0),
     made.1 ts (seen ra.1) s (seen rb.1) t (seen rc.1) u (seen rd.1) a.0 a.1 less b.0 b.1 then c.1 else d.1,
     omega (arith, a.2, b.2, c.2, d.2, ap length less.1, ap length then.1, ap length else.1),
     if_leads,
   )
-
--- an expression, `,` and more arguments
-pub args_more : (end depth : ℕ) (ts : List Placed) (ra : Exp × Bor (List Token)) (s : Bor (List Token)) (rb : Args × Bor (List Token)) (v : Args) → Reads end 4 depth exp ts (Ok ra) → GoesOn end args (symbol sg.Comma) args_goals (seen ra.1) (Some s) → ReadsArgs end depth (seen s) (Ok rb) → Mores ra.0 rb.0 v → ReadsArgs end depth ts (Ok (v, rb.1))
-args_more end depth ts ra s rb v a comma b made = (
-  made ts (seen ra.1) (seen s) (seen rb.1) a.1 comma.0 b.0,
-  omega (arith, a.2, b.1, ap length comma.0.1),
-  λ S d few. a.3 (args ∷ S) d few ∙ comma.1 S few ∙ b.2 S d few,
-)
-
--- a name, `=` and an expression, and more of them
-pub vals_more : (end depth : ℕ) (ts : List Placed) (h : Lexeme × Option Lexeme × Bor (List Token)) (ra : Exp × Bor (List Token)) (s : Bor (List Token)) (rb : Vals × Bor (List Token)) (v : Vals) → Headed end ts (Ok h) → Reads end 4 depth exp (seen h.2) (Ok ra) → GoesOn end vals (word kw.Val) vals_goals (seen ra.1) (Some s) → ReadsVals end depth (seen s) (Ok rb) → BindsMore h.0 h.1 ra.0 rb.0 v → ReadsVals end depth ts (Ok (v, rb.1))
-vals_more end depth ts h ra s rb v head a again b made = (
-  made ts (seen h.2) (seen ra.1) (seen s) (seen rb.1) head.0 a.1 again.0 b.0,
-  omega (arith, head.1, a.2, b.1, ap length again.0.1),
-  λ S d few. head.2 (exp ∷ vals ∷ S) few ∙ a.3 (vals ∷ S) d few ∙ again.1 S few ∙ b.2 S d few,
-)
-
-pub vals_last : (end depth : ℕ) (ts : List Placed) (h : Lexeme × Option Lexeme × Bor (List Token)) (ra : Exp × Bor (List Token)) (v : Vals) → Headed end ts (Ok h) → Reads end 4 depth exp (seen h.2) (Ok ra) → GoesOn end vals (word kw.Val) vals_goals (seen ra.1) None → BindsLast h.0 h.1 ra.0 v → ReadsVals end depth ts (Ok (v, ra.1))
-vals_last end depth ts h ra v head a again made = (
-  made ts (seen h.2) (seen ra.1) head.0 a.1,
-  omega (arith, head.1, a.2),
-  λ S d few. head.2 (exp ∷ vals ∷ S) few ∙ a.3 (vals ∷ S) d few ∙ again S,
-)

@@ -1,5 +1,7 @@
 -- What the reading of a declaration says of a whole text. Assumes nothing.
-use Rattle.std.proofs.Common.{◌≡◌, ℕ, ◌⊎◌, List, [], ◌∷◌, Some, Ok, Err, Result, sym, refl, ap, ◌∙◌, subst, inl, inr, arith, Bor, MatchResult}
+use Rattle.std.proofs.Common.{◌≡◌, ℕ, ◌⊎◌, List, [], ◌∷◌, map, None, Some, Ok, Err, Result, sym, refl, ap, ◌∙◌, subst, inl, inr, arith, Bor, MatchResult}
+use Rattle.std.specs.List.{slice_get}
+use Rattle.tokens.specs.Meanings.{placed}
 use Rattle.refusals.specs.declared.refusal.Refusal.{Refusal}
 use Rattle.refusals.specs.declared.refusal.Refusal.TheVariants as cause
 use Rattle.tokens.specs.declared.token.Token.{Token}
@@ -15,9 +17,18 @@ use Rattle.goals.proofs.Verdicts.{misplaced_here, too_deep_here, at_most, answer
 use Rattle.goals.proofs.Single.{single}
 use Rattle.pieces.specs.declared.fault.Fault.{Fault}
 use Rattle.pieces.specs.declared.fault.Fault.TheVariants.{Misplaced, TooDeep, Memory}
+use Rattle.pieces.specs.Faults.{refusal_of}
 use Rattle.pieces.specs.Seen.{seen}
 use Rattle.grammar.specs.Declaring.{ReadsDec}
-use Rattle.grammar.specs.Readings.{Reading, declaration, refused, reading_of, Parses, ParseRefused, ReadsFrom, refusal_of}
+use Rattle.grammar.specs.Readings.{Reading, declaration, refused, reading_of, Parses, ParseRefused, ReadsFrom}
+
+pub all_seen : (ts : List Token) → None ≡ slice_get ts 0 → map placed ts ≡ []
+all_seen [] none = refl
+all_seen (t ∷ ts) none = cc
+
+pub front_seen : (ts : List Token) (t : Token) → Some t ≡ slice_get ts 0 → (more : List Placed) × (map placed ts ≡ placed t ∷ more)
+front_seen [] t first = cc
+front_seen (u ∷ ts) t first = (map placed ts, cc)
 
 pub parsed_all : (end : ℕ) (ts : List Placed) (x : Dec × Bor (List Token)) → ReadsDec end ts (Ok x) → seen x.1 ≡ [] → Parses end ts (declaration (declaration_of x.0))
 parsed_all end ts x reads all =

@@ -6,8 +6,6 @@ use Rattle.tokens.specs.Tokens.{Placed}
 use Rattle.tokens.specs.Lexer.{Lexed, read, no_token, too_long, lexed}
 use Rattle.syntax.specs.Trees.{Declaration}
 use Rattle.goals.specs.Outcomes.{Outcome, tree, misplaced_at, too_deep_at, ComesTo}
-use Rattle.pieces.specs.declared.fault.Fault.{Fault}
-use Rattle.pieces.specs.declared.fault.Fault.TheVariants.{Misplaced, TooDeep, Memory}
 
 pub data Reading : Type 0 where
   declaration : Declaration → Reading
@@ -38,9 +36,3 @@ ParseRefused end ts e = (e ≡ cause.Memory) ⊎ Parses end ts (refused e)
 
 abbrev pub ReadRefused : List ℕ → Refusal → Type 0
 ReadRefused text e = (e ≡ cause.Memory) ⊎ ReadsTo text (refused e)
-
--- the parser's faults as refusals
-abbrev pub refusal_of : Fault → Refusal
-refusal_of (Misplaced p) = cause.Misplaced p
-refusal_of (TooDeep p) = cause.TooDeep p
-refusal_of Memory = cause.Memory

@@ -2,12 +2,12 @@
 ghost use Rattle.std.specs.Prelude.{◌∷◌};
 ghost use Rattle.tokens.specs.Tokens.{word};
 ghost use Rattle.syntax.specs.Sorts.{at};
-ghost use Rattle.pieces.specs.Seen.{seen};
+ghost use Rattle.pieces.specs.Seen.{seen, left};
 ghost use Rattle.grammar.specs.Declaring.{ReadsDec};
 
 use super::expression::exp;
 use pieces::fault::Fault;
-use pieces::front::{Reader, first};
+use pieces::front::{Reader, Sign, Text};
 use syntax::tree::Dec;
 use tokens::token::{Symbol, Token, TokenKind, Word};
 
@@ -15,62 +15,36 @@ use tokens::token::{Symbol, Token, TokenKind, Word};
 const MORE_PARAMS: u8 = 7;
 
 // What follows a `val` at `place`.
-fn val<'t, 'a>(
-    reader: Reader,
-    place: usize,
-    ts: &'t [Token<'a>],
-) -> Result<(Dec<'a>, &'t [Token<'a>]), Fault>
-    ensures { ReadsDec reader.end (at place (word Word.Val) ∷ seen ts.entry) result }
+fn val<'a>(reader: &mut Reader<'_, 'a>, place: usize) -> Result<Dec<'a>, Fault>
+    ensures { ReadsDec reader.old.end (at place (word Word.Val) ∷ seen reader.old.rest) (left result reader.new.rest) }
 {
-    let (name, mark, rest) = reader.head(ts)?;
-    let (e, rest) = exp(reader, rest, 0)?;
-    Ok((Dec::Val(name, mark, e), rest))
+    let (name, mark) = reader.head()?;
+    let e = exp(reader, 0)?;
+    Ok(Dec::Val(name, mark, e))
 }
 
 // What follows a `fun` at `place`.
-fn fun<'t, 'a>(
-    reader: Reader,
-    place: usize,
-    ts: &'t [Token<'a>],
-) -> Result<(Dec<'a>, &'t [Token<'a>]), Fault>
-    ensures { ReadsDec reader.end (at place (word Word.Fun) ∷ seen ts.entry) result }
+fn fun<'a>(reader: &mut Reader<'_, 'a>, place: usize) -> Result<Dec<'a>, Fault>
+    ensures { ReadsDec reader.old.end (at place (word Word.Fun) ∷ seen reader.old.rest) (left result reader.new.rest) }
 {
-    let (name, rest) = reader.identifier(ts)?;
-    let rest = reader.expect_symbol(Symbol::Open, rest)?;
-    let (params, rest) = reader.params(rest, MORE_PARAMS)?;
-    let rest = reader.expect_symbol(Symbol::Close, rest)?;
-    let (ty, rest) = reader.typed(rest)?;
-    let (mark, rest) = reader.binder(rest);
-    let rest = reader.expect_symbol(Symbol::Equals, rest)?;
-    let (e, rest) = exp(reader, rest, 0)?;
-    Ok((Dec::Fun(name, params, ty, mark, e), rest))
+    let name = reader.identifier()?;
+    reader.expect(Sign::Symbol(Symbol::Open))?;
+    let params = reader.params(MORE_PARAMS)?;
+    reader.expect(Sign::Symbol(Symbol::Close))?;
+    let ty = reader.typed()?;
+    let mark = reader.text(Text::Binder);
+    reader.expect(Sign::Symbol(Symbol::Equals))?;
+    let e = exp(reader, 0)?;
+    Ok(Dec::Fun(name, params, ty, mark, e))
 }
 
-pub(super) fn dec<'t, 'a>(
-    reader: Reader,
-    ts: &'t [Token<'a>],
-) -> Result<(Dec<'a>, &'t [Token<'a>]), Fault>
-    ensures { ReadsDec reader.end (seen ts.entry) result }
+pub(super) fn dec<'a>(reader: &mut Reader<'_, 'a>) -> Result<Dec<'a>, Fault>
+    ensures { ReadsDec reader.old.end (seen reader.old.rest) (left result reader.new.rest) }
 {
-    match first(ts) {
-        Some(
-            (
-                Token {
-                    place,
-                    kind: TokenKind::Word(Word::Val),
-                },
-                rest,
-            ),
-        ) => val(reader, place, rest),
-        Some(
-            (
-                Token {
-                    place,
-                    kind: TokenKind::Word(Word::Fun),
-                },
-                rest,
-            ),
-        ) => fun(reader, place, rest),
-        _ => Err(reader.misplaced(ts)),
+    let Token { place, kind } = reader.next()?;
+    match kind {
+        TokenKind::Word(Word::Val) => val(reader, place),
+        TokenKind::Word(Word::Fun) => fun(reader, place),
+        _ => Err(Fault::Misplaced(place)),
     }
 }

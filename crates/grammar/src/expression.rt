@@ -1,438 +1,265 @@
-// Recursive descent over the tokens of an expression. A function reads the longest front that is what its name says.
-ghost use Rattle.std.specs.Prelude.{[], ◌∷◌};
+// Recursive descent over the tokens of an expression. A function reads the longest front that is what its name says. Where the
+// token that opened a part stands, and how many levels are open, are parameters beside the reader: a part is told them by the one
+// round it and does not change them, so a struct of all three would have to be made anew for each part.
+ghost use Rattle.std.specs.Prelude.{◌≡◌, [], ◌∷◌};
 ghost use Rattle.tokens.specs.Tokens.{word, symbol, identifier};
 ghost use Rattle.syntax.specs.Sorts.{at};
 ghost use Rattle.syntax.specs.Meanings.{text_of};
-ghost use Rattle.goals.specs.Goals.{exp as exp_goal, sum as sum_goal, term as term_goal, app as app_goal, atom as atom_goal, group as group_goal, terms, apps, assign};
-ghost use Rattle.pieces.specs.Seen.{seen};
-ghost use Rattle.pieces.specs.Reading.{Reads, ReadsArgs, ReadsVals, Fills, Assigns, Extends};
+ghost use Rattle.goals.specs.Goals.{exp as exp_goal, sum as sum_goal, app as app_goal, atom as atom_goal, group as group_goal, assign};
+ghost use Rattle.pieces.specs.Seen.{seen, left};
+ghost use Rattle.pieces.specs.Reading.{Reads, ReadsArgs, ReadsVals, Fills, Assigns};
+ghost use Rattle.pieces.specs.Taking.{strength_of, part_strength, whole_of, part_of};
 
 use pieces::fault::Fault;
-use pieces::front::{Reader, deeper, first};
+use pieces::front::{Reader, Sign, Text, deeper};
+use pieces::looking::Tier;
 use syntax::tree::{Args, Exp, Lexeme, Vals};
 use tokens::token::{Symbol, Token, TokenKind, Word};
 
 #[cycle(expression)]
-pub(super) fn exp<'t, 'a>(
-    reader: Reader,
-    ts: &'t [Token<'a>],
-    depth: u8,
-) -> Result<(Exp<'a>, &'t [Token<'a>]), Fault>
-    ensures { Reads reader.end 4 depth exp_goal (seen ts.entry) result }
+pub(super) fn exp<'a>(reader: &mut Reader<'_, 'a>, depth: u8) -> Result<Exp<'a>, Fault>
+    ensures read { Reads reader.old.end 4 depth exp_goal (seen reader.old.rest) (left result reader.new.rest) }
+    ensures same { reader.new.end ≡ reader.old.end }
 {
-    match reader.conditions(ts) {
-        Some((place, rest)) => conditional(reader, place, rest, depth),
-        None => sum(reader, ts, depth),
+    match reader.take(Sign::Word(Word::If)) {
+        Some(place) => conditional(reader, place, depth),
+        None => chain(reader, Tier::Sum, depth),
     }
 }
 
 // What follows an `if` at `place`.
 #[cycle(expression)]
-fn conditional<'t, 'a>(
-    reader: Reader,
-    place: usize,
-    ts: &'t [Token<'a>],
-    depth: u8,
-) -> Result<(Exp<'a>, &'t [Token<'a>]), Fault>
-    ensures { Reads reader.end 4 depth exp_goal (at place (word Word.If) ∷ seen ts.entry) result }
+fn conditional<'a>(reader: &mut Reader<'_, 'a>, place: usize, depth: u8) -> Result<Exp<'a>, Fault>
+    ensures read { Reads reader.old.end 4 depth exp_goal (at place (word Word.If) ∷ seen reader.old.rest) (left result reader.new.rest) }
+    ensures same { reader.new.end ≡ reader.old.end }
 {
     let Some(inner) = deeper(depth) else {
         return Err(Fault::TooDeep(place));
     };
-    let (a, rest) = sum(reader, ts, inner)?;
-    let rest = reader.expect_symbol(Symbol::Less, rest)?;
-    let (b, rest) = sum(reader, rest, inner)?;
-    let rest = reader.expect_word(Word::Then, rest)?;
-    let (c, rest) = exp(reader, rest, inner)?;
-    let rest = reader.expect_word(Word::Else, rest)?;
-    let (d, rest) = exp(reader, rest, inner)?;
-    match reader.chosen(place, a, b, c, d) {
-        Ok(e) => Ok((e, rest)),
-        Err(fault) => Err(fault),
+    let a = chain(reader, Tier::Sum, inner)?;
+    reader.expect(Sign::Symbol(Symbol::Less))?;
+    let b = chain(reader, Tier::Sum, inner)?;
+    reader.expect(Sign::Word(Word::Then))?;
+    let c = exp(reader, inner)?;
+    reader.expect(Sign::Word(Word::Else))?;
+    let d = exp(reader, inner)?;
+    reader.chosen(place, a, b, c, d)
+}
+
+// What the operators of a tier join.
+#[cycle(expression)]
+fn part<'a>(reader: &mut Reader<'_, 'a>, tier: Tier, depth: u8) -> Result<Exp<'a>, Fault>
+    ensures read { Reads reader.old.end (part_strength tier) depth (part_of tier) (seen reader.old.rest) (left result reader.new.rest) }
+    ensures same { reader.new.end ≡ reader.old.end }
+{
+    match tier {
+        Tier::Sum => chain(reader, Tier::Term, depth),
+        Tier::Term => app(reader, depth),
     }
 }
 
+// Parts with the operators of a tier between them, grouped to the left.
 #[cycle(expression)]
-fn sum<'t, 'a>(
-    reader: Reader,
-    ts: &'t [Token<'a>],
-    depth: u8,
-) -> Result<(Exp<'a>, &'t [Token<'a>]), Fault>
-    ensures { Reads reader.end 3 depth sum_goal (seen ts.entry) result }
+fn chain<'a>(reader: &mut Reader<'_, 'a>, tier: Tier, depth: u8) -> Result<Exp<'a>, Fault>
+    ensures read { Reads reader.old.end (strength_of tier) depth (whole_of tier) (seen reader.old.rest) (left result reader.new.rest) }
+    ensures same { reader.new.end ≡ reader.old.end }
 {
-    match term(reader, ts, depth) {
-        Ok((left, rest)) => sum_rest(reader, left, rest, depth),
-        Err(fault) => Err(fault),
+    let mut joined = part(reader, tier, depth)?;
+    while let Some((place, op)) = reader.operator(tier) {
+        let next = part(reader, tier, depth)?;
+        joined = reader.arith(joined, place, op, next)?;
     }
+    Ok(joined)
 }
 
 #[cycle(expression)]
-fn sum_rest<'t, 'a>(
-    reader: Reader,
-    left: Exp<'a>,
-    ts: &'t [Token<'a>],
-    depth: u8,
-) -> Result<(Exp<'a>, &'t [Token<'a>]), Fault>
-    ensures { Extends reader.end 3 depth terms left.entry (seen ts.entry) result }
+fn app<'a>(reader: &mut Reader<'_, 'a>, depth: u8) -> Result<Exp<'a>, Fault>
+    ensures read { Reads reader.old.end 1 depth app_goal (seen reader.old.rest) (left result reader.new.rest) }
+    ensures same { reader.new.end ≡ reader.old.end }
 {
-    match reader.adding(ts) {
-        Some((place, op, rest)) => {
-            let (right, rest) = term(reader, rest, depth)?;
-            match reader.arith(left, place, op, right) {
-                Ok(left) => sum_rest(reader, left, rest, depth),
-                Err(fault) => Err(fault),
-            }
-        }
-        None => Ok((left, ts)),
+    if let Some(place) = reader.take(Sign::Word(Word::Ref)) {
+        return cell(reader, place, depth);
+    }
+    if let Some(place) = reader.take(Sign::Symbol(Symbol::Bang)) {
+        return content(reader, place, depth);
+    }
+    match reader.text(Text::Name) {
+        Some(name) => named(reader, name, depth),
+        None => atom(reader, depth),
     }
 }
 
+// What follows a `ref` at `place`. That of a `!` differs in the tree that is made: two functions are plainer than one with a
+// parameter for it.
 #[cycle(expression)]
-fn term<'t, 'a>(
-    reader: Reader,
-    ts: &'t [Token<'a>],
-    depth: u8,
-) -> Result<(Exp<'a>, &'t [Token<'a>]), Fault>
-    ensures { Reads reader.end 2 depth term_goal (seen ts.entry) result }
+fn cell<'a>(reader: &mut Reader<'_, 'a>, place: usize, depth: u8) -> Result<Exp<'a>, Fault>
+    ensures read { Reads reader.old.end 1 depth app_goal (at place (word Word.Ref) ∷ seen reader.old.rest) (left result reader.new.rest) }
+    ensures same { reader.new.end ≡ reader.old.end }
 {
-    match app(reader, ts, depth) {
-        Ok((left, rest)) => term_rest(reader, left, rest, depth),
-        Err(fault) => Err(fault),
-    }
-}
-
-#[cycle(expression)]
-fn term_rest<'t, 'a>(
-    reader: Reader,
-    left: Exp<'a>,
-    ts: &'t [Token<'a>],
-    depth: u8,
-) -> Result<(Exp<'a>, &'t [Token<'a>]), Fault>
-    ensures { Extends reader.end 2 depth apps left.entry (seen ts.entry) result }
-{
-    match reader.multiplying(ts) {
-        Some((place, op, rest)) => {
-            let (right, rest) = app(reader, rest, depth)?;
-            match reader.arith(left, place, op, right) {
-                Ok(left) => term_rest(reader, left, rest, depth),
-                Err(fault) => Err(fault),
-            }
-        }
-        None => Ok((left, ts)),
-    }
-}
-
-#[cycle(expression)]
-fn app<'t, 'a>(
-    reader: Reader,
-    ts: &'t [Token<'a>],
-    depth: u8,
-) -> Result<(Exp<'a>, &'t [Token<'a>]), Fault>
-    ensures { Reads reader.end 1 depth app_goal (seen ts.entry) result }
-{
-    match first(ts) {
-        Some(
-            (
-                Token {
-                    place,
-                    kind: TokenKind::Word(Word::Ref),
-                },
-                rest,
-            ),
-        ) => cell(reader, place, rest, depth),
-        Some(
-            (
-                Token {
-                    place,
-                    kind: TokenKind::Symbol(Symbol::Bang),
-                },
-                rest,
-            ),
-        ) => content(reader, place, rest, depth),
-        Some(
-            (
-                Token {
-                    place,
-                    kind: TokenKind::Identifier(bytes),
-                },
-                rest,
-            ),
-        ) => named(reader, Lexeme { place, bytes }, rest, depth),
-        _ => atom(reader, ts, depth),
-    }
-}
-
-// What follows a `ref` at `place`.
-#[cycle(expression)]
-fn cell<'t, 'a>(
-    reader: Reader,
-    place: usize,
-    ts: &'t [Token<'a>],
-    depth: u8,
-) -> Result<(Exp<'a>, &'t [Token<'a>]), Fault>
-    ensures { Reads reader.end 1 depth app_goal (at place (word Word.Ref) ∷ seen ts.entry) result }
-{
-    match atom(reader, ts, depth) {
-        Ok((e, rest)) => match reader.reference(place, e) {
-            Ok(e) => Ok((e, rest)),
-            Err(fault) => Err(fault),
-        },
-        Err(fault) => Err(fault),
-    }
+    let e = atom(reader, depth)?;
+    reader.reference(place, e)
 }
 
 // What follows a `!` at `place`.
 #[cycle(expression)]
-fn content<'t, 'a>(
-    reader: Reader,
-    place: usize,
-    ts: &'t [Token<'a>],
-    depth: u8,
-) -> Result<(Exp<'a>, &'t [Token<'a>]), Fault>
-    ensures { Reads reader.end 1 depth app_goal (at place (symbol Symbol.Bang) ∷ seen ts.entry) result }
+fn content<'a>(reader: &mut Reader<'_, 'a>, place: usize, depth: u8) -> Result<Exp<'a>, Fault>
+    ensures read { Reads reader.old.end 1 depth app_goal (at place (symbol Symbol.Bang) ∷ seen reader.old.rest) (left result reader.new.rest) }
+    ensures same { reader.new.end ≡ reader.old.end }
 {
-    match atom(reader, ts, depth) {
-        Ok((e, rest)) => match reader.read(place, e) {
-            Ok(e) => Ok((e, rest)),
-            Err(fault) => Err(fault),
-        },
-        Err(fault) => Err(fault),
-    }
+    let e = atom(reader, depth)?;
+    reader.read(place, e)
 }
 
 // What follows a name.
 #[cycle(expression)]
-fn named<'t, 'a>(
-    reader: Reader,
-    name: Lexeme<'a>,
-    ts: &'t [Token<'a>],
-    depth: u8,
-) -> Result<(Exp<'a>, &'t [Token<'a>]), Fault>
-    ensures { Reads reader.end 1 depth app_goal (at name.entry.place (identifier (text_of name.entry).bytes) ∷ seen ts.entry) result }
+fn named<'a>(reader: &mut Reader<'_, 'a>, name: Lexeme<'a>, depth: u8) -> Result<Exp<'a>, Fault>
+    ensures read { Reads reader.old.end 1 depth app_goal (at name.entry.place (identifier (text_of name.entry).bytes) ∷ seen reader.old.rest) (left result reader.new.rest) }
+    ensures same { reader.new.end ≡ reader.old.end }
 {
-    match reader.opens(ts) {
-        Some((place, rest)) => call(reader, name, place, rest, depth),
-        None => reader.bounds(Exp::Variable(name), ts, depth),
+    match reader.take(Sign::Symbol(Symbol::Open)) {
+        Some(place) => call(reader, name, place, depth),
+        None => reader.bounds(Exp::Variable(name), depth),
     }
 }
 
 // What follows a name and a `(` at `place`.
 #[cycle(expression)]
-fn call<'t, 'a>(
-    reader: Reader,
+fn call<'a>(
+    reader: &mut Reader<'_, 'a>,
     name: Lexeme<'a>,
     place: usize,
-    ts: &'t [Token<'a>],
     depth: u8,
-) -> Result<(Exp<'a>, &'t [Token<'a>]), Fault>
-    ensures { Reads reader.end 1 depth app_goal (at name.entry.place (identifier (text_of name.entry).bytes) ∷ (at place (symbol Symbol.Open) ∷ seen ts.entry)) result }
+) -> Result<Exp<'a>, Fault>
+    ensures read { Reads reader.old.end 1 depth app_goal (at name.entry.place (identifier (text_of name.entry).bytes) ∷ (at place (symbol Symbol.Open) ∷ seen reader.old.rest)) (left result reader.new.rest) }
+    ensures same { reader.new.end ≡ reader.old.end }
 {
     let Some(inner) = deeper(depth) else {
         return Err(Fault::TooDeep(place));
     };
-    match args(reader, ts, inner) {
-        Ok((args, rest)) => reader.applied(name, args, rest, depth),
-        Err(fault) => Err(fault),
+    let args = args(reader, inner)?;
+    reader.applied(name, args, depth)
+}
+
+// The arguments of a call. This and `vals` call themselves, since a list is made from its end.
+#[cycle(expression)]
+fn args<'a>(reader: &mut Reader<'_, 'a>, depth: u8) -> Result<Args<'a>, Fault>
+    ensures read { ReadsArgs reader.old.end depth (seen reader.old.rest) (left result reader.new.rest) }
+    ensures same { reader.new.end ≡ reader.old.end }
+{
+    let e = exp(reader, depth)?;
+    match reader.take(Sign::Symbol(Symbol::Comma)) {
+        Some(_) => {
+            let more = args(reader, depth)?;
+            reader.more(e, more)
+        }
+        None => reader.last(e),
     }
 }
 
 #[cycle(expression)]
-fn args<'t, 'a>(
-    reader: Reader,
-    ts: &'t [Token<'a>],
-    depth: u8,
-) -> Result<(Args<'a>, &'t [Token<'a>]), Fault>
-    ensures { ReadsArgs reader.end depth (seen ts.entry) result }
+fn atom<'a>(reader: &mut Reader<'_, 'a>, depth: u8) -> Result<Exp<'a>, Fault>
+    ensures read { Reads reader.old.end 0 depth atom_goal (seen reader.old.rest) (left result reader.new.rest) }
+    ensures same { reader.new.end ≡ reader.old.end }
 {
-    let (e, rest) = exp(reader, ts, depth)?;
-    match reader.comma(rest) {
-        Some(rest) => match args(reader, rest, depth) {
-            Ok((args, rest)) => match reader.more(e, args) {
-                Ok(args) => Ok((args, rest)),
-                Err(fault) => Err(fault),
-            },
-            Err(fault) => Err(fault),
-        },
-        None => match reader.last(e) {
-            Ok(args) => Ok((args, rest)),
-            Err(fault) => Err(fault),
-        },
-    }
-}
-
-#[cycle(expression)]
-fn atom<'t, 'a>(
-    reader: Reader,
-    ts: &'t [Token<'a>],
-    depth: u8,
-) -> Result<(Exp<'a>, &'t [Token<'a>]), Fault>
-    ensures { Reads reader.end 0 depth atom_goal (seen ts.entry) result }
-{
-    match first(ts) {
-        Some(
-            (
-                Token {
-                    place,
-                    kind: TokenKind::Literal(bytes),
-                },
-                rest,
-            ),
-        ) => reader.bounds(Exp::Literal(Lexeme { place, bytes }), rest, depth),
-        Some(
-            (
-                Token {
-                    place,
-                    kind: TokenKind::Identifier(bytes),
-                },
-                rest,
-            ),
-        ) => reader.bounds(Exp::Variable(Lexeme { place, bytes }), rest, depth),
-        Some(
-            (
-                Token {
-                    place,
-                    kind: TokenKind::Symbol(Symbol::Open),
-                },
-                rest,
-            ),
-        ) => group(reader, place, rest, depth),
-        Some(
-            (
-                Token {
-                    place,
-                    kind: TokenKind::Word(Word::Let),
-                },
-                rest,
-            ),
-        ) => block(reader, place, rest, depth),
-        _ => Err(reader.misplaced(ts)),
+    let Token { place, kind } = reader.next()?;
+    match kind {
+        TokenKind::Literal(bytes) => reader.bounds(Exp::Literal(Lexeme { place, bytes }), depth),
+        TokenKind::Identifier(bytes) => reader.bounds(
+            Exp::Variable(Lexeme { place, bytes }),
+            depth,
+        ),
+        TokenKind::Symbol(Symbol::Open) => group(reader, place, depth),
+        TokenKind::Word(Word::Let) => block(reader, place, depth),
+        _ => Err(Fault::Misplaced(place)),
     }
 }
 
 // What follows a `(` at `place`.
 #[cycle(expression)]
-fn group<'t, 'a>(
-    reader: Reader,
-    place: usize,
-    ts: &'t [Token<'a>],
-    depth: u8,
-) -> Result<(Exp<'a>, &'t [Token<'a>]), Fault>
-    ensures { Reads reader.end 0 depth atom_goal (at place (symbol Symbol.Open) ∷ seen ts.entry) result }
+fn group<'a>(reader: &mut Reader<'_, 'a>, place: usize, depth: u8) -> Result<Exp<'a>, Fault>
+    ensures read { Reads reader.old.end 0 depth atom_goal (at place (symbol Symbol.Open) ∷ seen reader.old.rest) (left result reader.new.rest) }
+    ensures same { reader.new.end ≡ reader.old.end }
 {
     let Some(inner) = deeper(depth) else {
         return Err(Fault::TooDeep(place));
     };
-    match inside(reader, place, ts, inner) {
-        Ok((e, rest)) => reader.closed(e, rest, depth),
-        Err(fault) => Err(fault),
-    }
+    let e = inside(reader, place, inner)?;
+    reader.closed(e, depth)
 }
 
 // What stands between a `(` at `place` and its `)`: the tree of both and that.
 #[cycle(expression)]
-fn inside<'t, 'a>(
-    reader: Reader,
-    place: usize,
-    ts: &'t [Token<'a>],
-    depth: u8,
-) -> Result<(Exp<'a>, &'t [Token<'a>]), Fault>
-    ensures { Fills reader.end depth place (group_goal ∷ []) (seen ts.entry) result }
+fn inside<'a>(reader: &mut Reader<'_, 'a>, place: usize, depth: u8) -> Result<Exp<'a>, Fault>
+    ensures read { Fills reader.old.end depth place (group_goal ∷ []) (seen reader.old.rest) (left result reader.new.rest) }
+    ensures same { reader.new.end ≡ reader.old.end }
 {
-    match reader.conditions(ts) {
-        Some((start, rest)) => match conditional(reader, start, rest, depth) {
-            Ok((e, rest)) => match reader.grouped(place, e) {
-                Ok(e) => Ok((e, rest)),
-                Err(fault) => Err(fault),
-            },
-            Err(fault) => Err(fault),
-        },
-        None => bracket(reader, place, ts, depth),
+    match reader.take(Sign::Word(Word::If)) {
+        Some(start) => {
+            let e = conditional(reader, start, depth)?;
+            reader.grouped(place, e)
+        }
+        None => bracket(reader, place, depth),
     }
 }
 
 #[cycle(expression)]
-fn bracket<'t, 'a>(
-    reader: Reader,
-    place: usize,
-    ts: &'t [Token<'a>],
-    depth: u8,
-) -> Result<(Exp<'a>, &'t [Token<'a>]), Fault>
-    ensures { Fills reader.end depth place (sum_goal ∷ assign ∷ []) (seen ts.entry) result }
+fn bracket<'a>(reader: &mut Reader<'_, 'a>, place: usize, depth: u8) -> Result<Exp<'a>, Fault>
+    ensures read { Fills reader.old.end depth place (sum_goal ∷ assign ∷ []) (seen reader.old.rest) (left result reader.new.rest) }
+    ensures same { reader.new.end ≡ reader.old.end }
 {
-    let (e, rest) = sum(reader, ts, depth)?;
-    match reader.becomes(rest) {
-        Some(rest) => assignment(reader, place, e, rest, depth),
-        None => match reader.grouped(place, e) {
-            Ok(e) => Ok((e, rest)),
-            Err(fault) => Err(fault),
-        },
+    let e = chain(reader, Tier::Sum, depth)?;
+    match reader.take(Sign::Symbol(Symbol::Assign)) {
+        Some(_) => assignment(reader, place, e, depth),
+        None => reader.grouped(place, e),
     }
 }
 
 // What follows a `:=` behind `target`, in a bracket at `place`.
 #[cycle(expression)]
-fn assignment<'t, 'a>(
-    reader: Reader,
+fn assignment<'a>(
+    reader: &mut Reader<'_, 'a>,
     place: usize,
     target: Exp<'a>,
-    ts: &'t [Token<'a>],
     depth: u8,
-) -> Result<(Exp<'a>, &'t [Token<'a>]), Fault>
-    ensures { Assigns reader.end depth place target.entry (seen ts.entry) result }
+) -> Result<Exp<'a>, Fault>
+    ensures read { Assigns reader.old.end depth place target.entry (seen reader.old.rest) (left result reader.new.rest) }
+    ensures same { reader.new.end ≡ reader.old.end }
 {
-    let (b, rest) = sum(reader, ts, depth)?;
-    let rest = reader.expect_symbol(Symbol::Semicolon, rest)?;
-    let (c, rest) = exp(reader, rest, depth)?;
-    match reader.assigned(place, target, b, c) {
-        Ok(e) => Ok((e, rest)),
-        Err(fault) => Err(fault),
-    }
+    let b = chain(reader, Tier::Sum, depth)?;
+    reader.expect(Sign::Symbol(Symbol::Semicolon))?;
+    let c = exp(reader, depth)?;
+    reader.assigned(place, target, b, c)
 }
 
 // What follows a `let` at `place`.
 #[cycle(expression)]
-fn block<'t, 'a>(
-    reader: Reader,
-    place: usize,
-    ts: &'t [Token<'a>],
-    depth: u8,
-) -> Result<(Exp<'a>, &'t [Token<'a>]), Fault>
-    ensures { Reads reader.end 0 depth atom_goal (at place (word Word.Let) ∷ seen ts.entry) result }
+fn block<'a>(reader: &mut Reader<'_, 'a>, place: usize, depth: u8) -> Result<Exp<'a>, Fault>
+    ensures read { Reads reader.old.end 0 depth atom_goal (at place (word Word.Let) ∷ seen reader.old.rest) (left result reader.new.rest) }
+    ensures same { reader.new.end ≡ reader.old.end }
 {
     let Some(inner) = deeper(depth) else {
         return Err(Fault::TooDeep(place));
     };
-    let rest = reader.expect_word(Word::Val, ts)?;
-    let (vals, rest) = vals(reader, rest, inner)?;
-    let rest = reader.expect_word(Word::In, rest)?;
-    match exp(reader, rest, inner) {
-        Ok((e, rest)) => reader.ended(place, vals, e, rest, depth),
-        Err(fault) => Err(fault),
-    }
+    reader.expect(Sign::Word(Word::Val))?;
+    let vals = vals(reader, inner)?;
+    reader.expect(Sign::Word(Word::In))?;
+    let e = exp(reader, inner)?;
+    reader.ended(place, vals, e, depth)
 }
 
 // The declarations of a `let`, from behind the first `val`.
 #[cycle(expression)]
-fn vals<'t, 'a>(
-    reader: Reader,
-    ts: &'t [Token<'a>],
-    depth: u8,
-) -> Result<(Vals<'a>, &'t [Token<'a>]), Fault>
-    ensures { ReadsVals reader.end depth (seen ts.entry) result }
+fn vals<'a>(reader: &mut Reader<'_, 'a>, depth: u8) -> Result<Vals<'a>, Fault>
+    ensures read { ReadsVals reader.old.end depth (seen reader.old.rest) (left result reader.new.rest) }
+    ensures same { reader.new.end ≡ reader.old.end }
 {
-    let (name, mark, rest) = reader.head(ts)?;
-    let (e, rest) = exp(reader, rest, depth)?;
-    match reader.again(rest) {
-        Some(rest) => match vals(reader, rest, depth) {
-            Ok((vals, rest)) => match reader.bound_more(name, mark, e, vals) {
-                Ok(vals) => Ok((vals, rest)),
-                Err(fault) => Err(fault),
-            },
-            Err(fault) => Err(fault),
-        },
-        None => match reader.bound_last(name, mark, e) {
-            Ok(vals) => Ok((vals, rest)),
-            Err(fault) => Err(fault),
-        },
+    let (name, mark) = reader.head()?;
+    let e = exp(reader, depth)?;
+    match reader.take(Sign::Word(Word::Val)) {
+        Some(_) => {
+            let more = vals(reader, depth)?;
+            reader.bound_more(name, mark, e, more)
+        }
+        None => reader.bound_last(name, mark, e),
     }
 }

@@ -2,26 +2,15 @@
 ghost use Rattle.std.specs.Prelude.{◌≡◌, length, MatchResult};
 ghost use Rattle.syntax.specs.Meanings.{declaration_of};
 ghost use Rattle.pieces.specs.Seen.{seen};
-ghost use Rattle.grammar.specs.Readings.{Reading, declaration, refusal_of, Parses, ParseRefused, ReadsTo, ReadRefused};
+ghost use Rattle.grammar.specs.Readings.{Reading, declaration, Parses, ParseRefused, ReadsTo, ReadRefused};
 
 use super::declaration::dec;
-use pieces::fault::Fault;
-use pieces::front::{Reader, first};
+use pieces::front::Reader;
 use refusals::refusal::Refusal;
 use std::alloc::Global;
 use syntax::tree::Dec;
 use tokens::lex::lex;
 use tokens::token::Token;
-
-fn refusal(fault: Fault) -> Refusal
-    ensures { result ≡ refusal_of fault }
-{
-    match fault {
-        Fault::Misplaced(place) => Refusal::Misplaced(place),
-        Fault::TooDeep(place) => Refusal::TooDeep(place),
-        Fault::Memory => Refusal::Memory,
-    }
-}
 
 // The tree of all the tokens of a text with `end` bytes.
 pub fn parse<'a>(heap: Global, ts: &[Token<'a>], end: usize) -> Result<Dec<'a>, Refusal>
@@ -29,13 +18,15 @@ pub fn parse<'a>(heap: Global, ts: &[Token<'a>], end: usize) -> Result<Dec<'a>, 
     ensures some { (x : Reading) × Parses end (seen ts.entry) x }
     ensures only { (x y : Reading) → Parses end (seen ts.entry) x → Parses end (seen ts.entry) y → x ≡ y }
 {
-    let reader = Reader { end, heap };
-    match dec(reader, ts) {
-        Ok((d, rest)) => match first(rest) {
-            None => Ok(d),
-            Some((t, _)) => Err(Refusal::Misplaced(t.place)),
-        },
-        Err(fault) => Err(refusal(fault)),
+    let mut reader = Reader {
+        rest: ts,
+        end,
+        heap,
+    };
+    let d = dec(&mut reader)?;
+    match reader.rest.first() {
+        None => Ok(d),
+        Some(token) => Err(Refusal::Misplaced(token.place)),
     }
 }
 

@@ -2,14 +2,12 @@
 // Reads a script from standard input, one declaration a line, and shows for each its tokens with their places, or the number
 // and the place of its refusal.
 use anyhow::anyhow;
-use refusals::refusal::Refusal;
 use std::io::Read;
 use std::{env, io};
 use tokens::lex::lex;
-use tokens::marks::first_part;
 use tokens::token::{Mark, Token, TokenKind};
 
-// Bytes of a token, which are all of ASCII.
+// Bytes of a token, which are all of ASCII. That is a promise of the lexer and not of their type, so no `Display` prints them.
 fn show_bytes(rt: &impl Print, bytes: &[u8]) -> io::Result<()> {
     match std::str::from_utf8(bytes) {
         Ok(text) => print!(rt; "{text}"),
@@ -33,8 +31,8 @@ fn show_mark(rt: &impl Print, mark: Mark<'_>) -> io::Result<()> {
 
 fn show_kind(rt: &impl Print, kind: TokenKind<'_>) -> io::Result<()> {
     match kind {
-        TokenKind::Word(word) => show_bytes(rt, word.text()),
-        TokenKind::Symbol(symbol) => show_bytes(rt, symbol.text()),
+        TokenKind::Word(word) => print!(rt; "{word}"),
+        TokenKind::Symbol(symbol) => print!(rt; "{symbol}"),
         TokenKind::Literal(digits) => show_bytes(rt, digits),
         TokenKind::Identifier(name) => show_bytes(rt, name),
         TokenKind::Mark(mark) => show_mark(rt, mark),
@@ -51,38 +49,22 @@ fn show_tokens(rt: &impl Print, tokens: &[Token<'_>]) -> io::Result<()> {
     println!(rt; "")
 }
 
-fn show_refusal(rt: &impl Print, refusal: Refusal) -> io::Result<()> {
-    match refusal.number() {
-        Some(number) => print!(rt; "refused {number}")?,
-        None => print!(rt; "refused memory")?,
-    }
-    let (first, second) = refusal.values();
-    if let Some(value) = first {
-        print!(rt; " {value}")?;
-    }
-    if let Some(value) = second {
-        print!(rt; " {value}")?;
-    }
-    println!(rt; "")
-}
-
 fn show_line(rt: &HostRuntime, line: &[u8]) -> io::Result<()> {
     match lex(rt.alloc(), line) {
         Ok(tokens) => show_tokens(rt, tokens.as_slice()),
-        Err(refusal) => show_refusal(rt, refusal),
+        Err(refusal) => println!(rt; "{refusal}"),
     }
 }
 
-// The lines of a script; one that ends with a line feed has no further line behind it.
+// The lines of a script; one that ends with a line feed has no further line behind it. `grammar_vectors` has the same few lines:
+// a library for them alone is no plainer.
 fn show_script(rt: &HostRuntime, script: &[u8]) -> io::Result<()> {
-    let mut rest = script;
-    while !rest.is_empty() {
-        let cut = first_part(rest, b'\n');
-        show_line(rt, cut.part)?;
-        match cut.rest {
-            Some(later) => rest = later,
-            None => return Ok(()),
-        }
+    if script.is_empty() {
+        return Ok(());
+    }
+    let lines = script.strip_suffix(b"\n").unwrap_or(script);
+    for line in lines.split(|b| *b == b'\n') {
+        show_line(rt, line)?;
     }
     Ok(())
 }

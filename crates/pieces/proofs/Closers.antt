@@ -1,5 +1,5 @@
 -- What the closing word of an atom or a call leads to. Assumes nothing.
-use Rattle.std.proofs.Common.{◌≡◌, ℕ, ◌<◌, ◌≤◌, List, [], ◌∷◌, length, Some, Ok, Err, Result, refl, ap, ◌∙◌, arith, Bor}
+use Rattle.std.proofs.Common.{◌≡◌, ℕ, ◌<◌, ◌≤◌, List, [], ◌∷◌, length, Some, Ok, Err, Result, sym, refl, ap, subst, ◌∙◌, arith, Bor}
 use Rattle.tokens.specs.declared.token.Token.{Token}
 use Rattle.tokens.specs.declared.token.Word.TheVariants as kw
 use Rattle.tokens.specs.declared.token.Symbol.TheVariants as sg
@@ -15,10 +15,10 @@ use Rattle.goals.specs.Machine.{step, levels, fate}
 use Rattle.goals.proofs.Steps.{word_taken, level_ends}
 use Rattle.pieces.specs.declared.fault.Fault.{Fault}
 use Rattle.pieces.specs.declared.fault.Fault.TheVariants.{Misplaced, TooDeep, Memory}
-use Rattle.pieces.specs.Seen.{seen}
+use Rattle.pieces.specs.Seen.{seen, left}
 use Rattle.pieces.specs.Reading.{Leads, Failed, Extends}
 use Rattle.pieces.specs.Closing.{LeadsOut, FailedOut, Closed, Ended, Applied}
-use Rattle.pieces.specs.Making.{Within, Called}
+use Rattle.pieces.specs.Making.{Made, Within, Called}
 
 -- a closing word, and what stands outside
 module _ (end depth : ℕ) (t : Tok) (takes : (S : Goals) → step (one t ∷ S) t ≡ Some S) (ts m : List Placed) (close : After t ts m) where
@@ -54,10 +54,12 @@ ends end depth place ts m vs e v (Ok y) close made x = (
 )
 ends end depth place ts m vs e v (Err r) close made x = marks_fail end depth (word kw.End) (λ S. refl) ts m close r x
 
-pub applies : (end depth : ℕ) (ts : List Placed) (f : Lexeme) (xs : Args) (v : Exp) (rest : Bor (List Token)) → After (symbol sg.Close) ts (seen rest) → Called f xs v → Applied end depth f xs ts (Ok (v, rest))
-applies end depth ts f xs v rest close made = (
+pub applies : (end depth : ℕ) (ts : List Placed) (f : Lexeme) (xs : Args) (r : Result Exp Fault) (rest : Bor (List Token)) → After (symbol sg.Close) ts (seen rest) → Made (Called f xs) r → Applied end depth f xs ts (left r rest)
+applies end depth ts f xs (Ok v) rest close made = (
   made.0,
   (λ j p l. made.1 j ts (seen rest) p l close),
   shorter end depth (symbol sg.Close) (λ S. refl) ts (seen rest) close (length (seen rest)) (omega arith),
   λ S d few. close_leads end depth (symbol sg.Close) (λ S. refl) ts (seen rest) close S few,
 )
+applies end depth ts f xs (Err e) rest close made =
+    subst (λ k. FailedOut end depth (one (symbol sg.Close) ∷ level ∷ []) ts k) (sym made) tt

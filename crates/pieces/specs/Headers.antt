@@ -42,13 +42,6 @@ ReadFlat A Is end gs ts (Err (Misplaced p)) = (S : Goals) → levels S ≤ most_
 ReadFlat A Is end gs ts (Err (TooDeep p)) = ⊥
 ReadFlat A Is end gs ts (Err Memory) = Unit {0}
 
--- `int` and its place
-abbrev pub ReadsInt : ℕ → List Placed → Result (ℕ × Bor (List Token)) Fault → Type 0
-ReadsInt end ts (Ok x) = ts ≡ at x.0 (word kw.Int) ∷ seen x.1
-ReadsInt end ts (Err (Misplaced p)) = (S : Goals) → fate end (one (word kw.Int) ∷ S) ts ≡ misplaced p
-ReadsInt end ts (Err (TooDeep p)) = ⊥
-ReadsInt end ts (Err Memory) = ⊥
-
 abbrev pub ReadsType : ℕ → List Placed → Result (Ty × Bor (List Token)) Fault → Type 0
 ReadsType end ts r = ReadFlat Ty Typed end (λ S. one (symbol sg.Colon) ∷ one (word kw.Int) ∷ refs 3 ∷ S) ts r
 

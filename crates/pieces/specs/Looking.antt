@@ -18,8 +18,8 @@ use Rattle.pieces.specs.declared.fault.Fault.TheVariants.{Misplaced, TooDeep, Me
 use Rattle.pieces.specs.Seen.{seen}
 
 -- a word or symbol is taken
-abbrev pub Went : ℕ → Tok → List Placed → Result (Bor (List Token)) Fault → Type 0
-Went end t ts (Ok m) = After t ts (seen m)
+abbrev pub Went : ℕ → Tok → List Placed → Result (ℕ × Bor (List Token)) Fault → Type 0
+Went end t ts (Ok x) = ts ≡ at x.0 t ∷ seen x.1
 Went end t ts (Err (Misplaced p)) = (S : Goals) → fate end (one t ∷ S) ts ≡ misplaced p
 Went end t ts (Err (TooDeep p)) = ⊥
 Went end t ts (Err Memory) = ⊥
@@ -42,15 +42,15 @@ Opens end ts (Some x) = ts ≡ at x.0 (symbol sg.Open) ∷ seen x.1
 Opens end ts None = (S : Goals) → fate end (call ∷ S) ts ≡ fate end (marks ∷ S) ts
 
 -- an operator of a strength is read from the front, if one stands there
-abbrev pub Operates : ℕ → ℕ → Goal → Goal → List Placed → Option (ℕ × Operator × Bor (List Token)) → Type 0
+abbrev pub Operates : ℕ → ℕ → Goal → Goal → List Placed → Option ((ℕ × Operator) × Bor (List Token)) → Type 0
 Operates n end g h ts (Some x) =
-    (strength x.1 ≡ n) × (ts ≡ at x.0 (sign_of x.1) ∷ seen x.2) × ((S : Goals) → levels S ≤ most_levels → fate end (g ∷ S) ts ≡ fate end (h ∷ g ∷ S) (seen x.2))
+    (strength x.0.1 ≡ n) × (ts ≡ at x.0.0 (sign_of x.0.1) ∷ seen x.1) × ((S : Goals) → levels S ≤ most_levels → fate end (g ∷ S) ts ≡ fate end (h ∷ g ∷ S) (seen x.1))
 Operates n end g h ts None = (S : Goals) → fate end (g ∷ S) ts ≡ fate end S ts
 
 -- name, mark and `=`
-abbrev pub Headed : ℕ → List Placed → Result (Lexeme × Option Lexeme × Bor (List Token)) Fault → Type 0
+abbrev pub Headed : ℕ → List Placed → Result ((Lexeme × Option Lexeme) × Bor (List Token)) Fault → Type 0
 Headed end ts (Ok x) =
-    Heads (text_of x.0) (mark_of x.1) ts (seen x.2) × (length (seen x.2) < length ts) × ((S : Goals) → levels S ≤ most_levels → fate end (name ∷ binder ∷ one (symbol sg.Equals) ∷ S) ts ≡ fate end S (seen x.2))
+    Heads (text_of x.0.0) (mark_of x.0.1) ts (seen x.1) × (length (seen x.1) < length ts) × ((S : Goals) → levels S ≤ most_levels → fate end (name ∷ binder ∷ one (symbol sg.Equals) ∷ S) ts ≡ fate end S (seen x.1))
 Headed end ts (Err (Misplaced p)) =
     (S : Goals) → levels S ≤ most_levels → fate end (name ∷ binder ∷ one (symbol sg.Equals) ∷ S) ts ≡ misplaced p
 Headed end ts (Err (TooDeep p)) = ⊥

@@ -1,6 +1,5 @@
 -- What the makers of trees answer: the tree of its parts, if there is memory for it. Assumes nothing.
-use Rattle.std.specs.Prelude.{◌≡◌, ℕ, ◌<◌, ◌≤◌, List, ◌∷◌, Ok, Err, Option, Result, Box}
-use Rattle.std.specs.declared.alloc.Global.{Global}
+use Rattle.std.specs.Prelude.{◌≡◌, ℕ, ◌<◌, ◌≤◌, List, ◌∷◌, Ok, Err, Option, Result}
 use Rattle.tokens.specs.declared.token.Word.TheVariants as kw
 use Rattle.tokens.specs.declared.token.Symbol.TheVariants as sg
 use Rattle.tokens.specs.Tokens.{Tok, word, symbol, identifier, Placed}
@@ -14,10 +13,6 @@ use Rattle.syntax.specs.Sorts.{at, After}
 use Rattle.syntax.specs.Grammar.{class, strength, sign_of, Spans, Lists, Binds, Heads}
 use Rattle.pieces.specs.declared.fault.Fault.{Fault}
 use Rattle.pieces.specs.declared.fault.Fault.TheVariants.{Memory}
-
-abbrev pub Boxed : {X : Type 0} → X → Result (Box X Global) Fault → Type 0
-Boxed e (Ok b) = b.value ≡ e
-Boxed e (Err x) = x ≡ Memory
 
 abbrev pub Made : {X : Type 0} → (X → Type 0) → Result X Fault → Type 0
 Made P (Ok e) = P e

@@ -1,74 +1,58 @@
 // The end of an atom or a call: the closing word, and the bound marks behind it.
+ghost use Rattle.std.specs.Prelude.{◌≡◌};
 ghost use Rattle.goals.specs.Goals.{marks};
-ghost use Rattle.pieces.specs.Seen.{seen};
+ghost use Rattle.pieces.specs.Seen.{seen, left};
 ghost use Rattle.pieces.specs.Reading.{Extends};
 ghost use Rattle.pieces.specs.Closing.{Closed, Ended, Applied};
 
 use super::fault::Fault;
-use super::front::Reader;
+use super::front::{Reader, Sign, Text};
 use syntax::tree::{Args, Exp, Lexeme, Vals};
-use tokens::token::{Symbol, Token, Word};
+use tokens::token::{Symbol, Word};
 
-impl Reader {
+impl<'t, 'a> Reader<'t, 'a> {
     // The atom with the bound marks that follow it.
-    pub fn bounds<'t, 'a>(
-        self,
-        atom: Exp<'a>,
-        ts: &'t [Token<'a>],
-        depth: u8,
-    ) -> Result<(Exp<'a>, &'t [Token<'a>]), Fault>
-        ensures { Extends self.end 0 depth marks atom.entry (seen ts.entry) result }
+    pub fn bounds(&mut self, mut atom: Exp<'a>, depth: u8) -> Result<Exp<'a>, Fault>
+        ensures read { Extends self.old.end 0 depth marks atom.entry (seen self.old.rest) (left result self.new.rest) }
+        ensures same { self.new.end ≡ self.old.end }
     {
-        match self.bound(ts) {
-            Some((mark, rest)) => {
-                let atom = self.boxed(atom)?;
-                self.bounds(Exp::Bounded(atom, mark), rest, depth)
-            }
-            None => Ok((atom, ts)),
+        while let Some(mark) = self.text(Text::Bound) {
+            atom = Exp::Bounded(Box::new(self.heap, atom)?, mark);
         }
+        Ok(atom)
     }
 
     // The `)` of a bracket and the bound marks that follow it.
-    pub fn closed<'t, 'a>(
-        self,
-        e: Exp<'a>,
-        ts: &'t [Token<'a>],
-        depth: u8,
-    ) -> Result<(Exp<'a>, &'t [Token<'a>]), Fault>
-        ensures { Closed self.end depth e.entry (seen ts.entry) result }
+    pub fn closed(&mut self, e: Exp<'a>, depth: u8) -> Result<Exp<'a>, Fault>
+        ensures read { Closed self.old.end depth e.entry (seen self.old.rest) (left result self.new.rest) }
+        ensures same { self.new.end ≡ self.old.end }
     {
-        let rest = self.expect_symbol(Symbol::Close, ts)?;
-        self.bounds(e, rest, depth)
+        self.expect(Sign::Symbol(Symbol::Close))?;
+        self.bounds(e, depth)
     }
 
     // The `end` of a `let` at `place` and the bound marks that follow it.
-    pub fn ended<'t, 'a>(
-        self,
+    pub fn ended(
+        &mut self,
         place: usize,
         vals: Vals<'a>,
         e: Exp<'a>,
-        ts: &'t [Token<'a>],
         depth: u8,
-    ) -> Result<(Exp<'a>, &'t [Token<'a>]), Fault>
-        ensures { Ended self.end depth place vals.entry e.entry (seen ts.entry) result }
+    ) -> Result<Exp<'a>, Fault>
+        ensures read { Ended self.old.end depth place vals.entry e.entry (seen self.old.rest) (left result self.new.rest) }
+        ensures same { self.new.end ≡ self.old.end }
     {
-        let rest = self.expect_word(Word::End, ts)?;
+        self.expect(Sign::Word(Word::End))?;
         let e = self.within(place, vals, e)?;
-        self.bounds(e, rest, depth)
+        self.bounds(e, depth)
     }
 
     // The `)` of a call.
-    pub fn applied<'t, 'a>(
-        self,
-        name: Lexeme<'a>,
-        args: Args<'a>,
-        ts: &'t [Token<'a>],
-        depth: u8,
-    ) -> Result<(Exp<'a>, &'t [Token<'a>]), Fault>
-        ensures { Applied self.end depth name.entry args.entry (seen ts.entry) result }
+    pub fn applied(&mut self, name: Lexeme<'a>, args: Args<'a>, depth: u8) -> Result<Exp<'a>, Fault>
+        ensures read { Applied self.old.end depth name.entry args.entry (seen self.old.rest) (left result self.new.rest) }
+        ensures same { self.new.end ≡ self.old.end }
     {
-        let rest = self.expect_symbol(Symbol::Close, ts)?;
-        let e = self.called(name, args)?;
-        Ok((e, rest))
+        self.expect(Sign::Symbol(Symbol::Close))?;
+        self.called(name, args)
     }
 }

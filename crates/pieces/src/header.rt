@@ -1,144 +1,84 @@
 // The head of a declaration: names, marks, types and parameters.
-ghost use Rattle.pieces.specs.Seen.{seen};
+ghost use Rattle.std.specs.Prelude.{◌≡◌};
+ghost use Rattle.pieces.specs.Seen.{seen, left};
 ghost use Rattle.pieces.specs.Looking.{Headed};
-ghost use Rattle.pieces.specs.Headers.{AgainRef, AgainParam, CountsRefs, ReadsInt, ReadsType, ReadsParam, ReadsParams};
+ghost use Rattle.pieces.specs.Headers.{CountsRefs, ReadsType, ReadsParam, ReadsParams};
 
 use super::fault::Fault;
-use super::front::{Reader, first};
+use super::front::{Reader, Sign, Text};
 use syntax::tree::{Lexeme, Param, Params, Ty};
-use tokens::token::{Symbol, Token, TokenKind, Word};
+use tokens::token::{Symbol, Token, Word};
 
 // So many times `ref` may stand in a type.
 const MOST_REFS: u8 = 3;
 
-impl Reader {
+impl<'t, 'a> Reader<'t, 'a> {
     // A name, its mark, and `=`.
-    pub fn head<'t, 'a>(
-        self,
-        ts: &'t [Token<'a>],
-    ) -> Result<(Lexeme<'a>, Option<Lexeme<'a>>, &'t [Token<'a>]), Fault>
-        ensures { Headed self.end (seen ts.entry) result }
+    pub fn head(&mut self) -> Result<(Lexeme<'a>, Option<Lexeme<'a>>), Fault>
+        ensures read { Headed self.old.end (seen self.old.rest) (left result self.new.rest) }
+        ensures same { self.new.end ≡ self.old.end }
     {
-        let (name, rest) = self.identifier(ts)?;
-        let (mark, rest) = self.binder(rest);
-        let rest = self.expect_symbol(Symbol::Equals, rest)?;
-        Ok((name, mark, rest))
-    }
-
-    // The place of a `ref` in a type, and what follows it.
-    fn another_ref<'t, 'a>(self, ts: &'t [Token<'a>]) -> Option<(usize, &'t [Token<'a>])>
-        ensures { AgainRef self.end (seen ts.entry) result }
-    {
-        match first(ts) {
-            Some(
-                (
-                    Token {
-                        place,
-                        kind: TokenKind::Word(Word::Ref),
-                    },
-                    rest,
-                ),
-            ) => Some((place, rest)),
-            _ => None,
-        }
-    }
-
-    // What follows a `,` between parameters.
-    fn another_param<'t, 'a>(self, ts: &'t [Token<'a>]) -> Option<&'t [Token<'a>]>
-        ensures { AgainParam self.end (seen ts.entry) result }
-    {
-        match first(ts) {
-            Some(
-                (
-                    Token {
-                        kind: TokenKind::Symbol(Symbol::Comma),
-                        ..
-                    },
-                    rest,
-                ),
-            ) => Some(rest),
-            _ => None,
-        }
+        let name = self.identifier()?;
+        let mark = self.text(Text::Binder);
+        self.expect(Sign::Symbol(Symbol::Equals))?;
+        Ok((name, mark))
     }
 
     // As many times `ref` as stand there, at most `room`, behind a word at `from`.
-    fn refs<'t, 'a>(self, ts: &'t [Token<'a>], room: u8, from: usize) -> (Ty, &'t [Token<'a>])
-        ensures { CountsRefs self.end room from (seen ts.entry) result }
+    fn refs(&mut self, room: u8, from: usize) -> Ty
+        ensures read { CountsRefs self.old.end room from (seen self.old.rest) (result, self.new.rest) }
+        ensures same { self.new.end ≡ self.old.end }
     {
-        let none = Ty {
+        let mut ty = Ty {
             depth: 0,
             last: from,
         };
-        if room == 0 {
-            return (none, ts);
+        while ty.depth < room
+            && let Some(place) = self.take(Sign::Word(Word::Ref))
+        {
+            ty = Ty {
+                depth: ty.depth + 1,
+                last: place,
+            };
         }
-        match self.another_ref(ts) {
-            Some((place, rest)) => {
-                let (ty, rest) = self.refs(rest, room - 1, place);
-                let more = Ty {
-                    depth: ty.depth + 1,
-                    last: ty.last,
-                };
-                (more, rest)
-            }
-            None => (none, ts),
-        }
-    }
-
-    fn int<'t, 'a>(self, ts: &'t [Token<'a>]) -> Result<(usize, &'t [Token<'a>]), Fault>
-        ensures { ReadsInt self.end (seen ts.entry) result }
-    {
-        match first(ts) {
-            Some(
-                (
-                    Token {
-                        place,
-                        kind: TokenKind::Word(Word::Int),
-                    },
-                    rest,
-                ),
-            ) => Ok((place, rest)),
-            _ => Err(self.misplaced(ts)),
-        }
+        ty
     }
 
     // `:` and a type.
-    pub fn typed<'t, 'a>(self, ts: &'t [Token<'a>]) -> Result<(Ty, &'t [Token<'a>]), Fault>
-        ensures { ReadsType self.end (seen ts.entry) result }
+    pub fn typed(&mut self) -> Result<Ty, Fault>
+        ensures read { ReadsType self.old.end (seen self.old.rest) (left result self.new.rest) }
+        ensures same { self.new.end ≡ self.old.end }
     {
-        let rest = self.expect_symbol(Symbol::Colon, ts)?;
-        let (place, rest) = self.int(rest)?;
-        Ok(self.refs(rest, MOST_REFS, place))
+        self.expect(Sign::Symbol(Symbol::Colon))?;
+        let place = self.expect(Sign::Word(Word::Int))?;
+        Ok(self.refs(MOST_REFS, place))
     }
 
-    fn param<'t, 'a>(self, ts: &'t [Token<'a>]) -> Result<(Param<'a>, &'t [Token<'a>]), Fault>
-        ensures { ReadsParam self.end (seen ts.entry) result }
+    fn param(&mut self) -> Result<Param<'a>, Fault>
+        ensures read { ReadsParam self.old.end (seen self.old.rest) (left result self.new.rest) }
+        ensures same { self.new.end ≡ self.old.end }
     {
-        let (name, rest) = self.identifier(ts)?;
-        let (mark, rest) = self.binder(rest);
-        let (ty, rest) = self.typed(rest)?;
-        Ok((Param { name, mark, ty }, rest))
+        let name = self.identifier()?;
+        let mark = self.text(Text::Binder);
+        let ty = self.typed()?;
+        Ok(Param { name, mark, ty })
     }
 
-    // A parameter and at most `room` more.
-    pub fn params<'t, 'a>(
-        self,
-        ts: &'t [Token<'a>],
-        room: u8,
-    ) -> Result<(Params<'a>, &'t [Token<'a>]), Fault>
-        ensures { ReadsParams self.end room (seen ts.entry) result }
+    // A parameter and at most `room` more. It calls itself, since the list is made from its end.
+    pub fn params(&mut self, room: u8) -> Result<Params<'a>, Fault>
+        ensures read { ReadsParams self.old.end room (seen self.old.rest) (left result self.new.rest) }
+        ensures same { self.new.end ≡ self.old.end }
     {
-        let (x, rest) = self.param(ts)?;
+        let x = self.param()?;
         if room == 0 {
-            return Ok((Params::Sole(x), rest));
+            return Ok(Params::Sole(x));
         }
-        match self.another_param(rest) {
-            Some(rest) => {
-                let (more, rest) = self.params(rest, room - 1)?;
-                let more = self.boxed(more)?;
-                Ok((Params::And(x, more), rest))
+        match self.take(Sign::Symbol(Symbol::Comma)) {
+            Some(_) => {
+                let more = self.params(room - 1)?;
+                Ok(Params::And(x, Box::new(self.heap, more)?))
             }
-            None => Ok((Params::Sole(x), rest)),
+            None => Ok(Params::Sole(x)),
         }
     }
 }

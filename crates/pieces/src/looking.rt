@@ -1,199 +1,48 @@
 // What stands at the front, where more than one thing may.
-ghost use Rattle.tokens.specs.Tokens.{word, symbol};
-ghost use Rattle.goals.specs.Goals.{terms, term, apps, app, args as further_args, assign, vals as further_vals, semi_goals, args_goals, vals_goals};
-ghost use Rattle.pieces.specs.Seen.{seen};
-ghost use Rattle.pieces.specs.Looking.{GoesOn, Operates, BinderMark, BoundMark, Conditions, Opens};
+ghost use Rattle.std.specs.Prelude.{◌≡◌, MatchOption};
+ghost use Rattle.tokens.specs.Meanings.{meaning};
+ghost use Rattle.pieces.specs.Seen.{seen, left_if};
+ghost use Rattle.pieces.specs.Looking.{Operates};
+ghost use Rattle.pieces.specs.Taking.{strength_of, more_of, part_of, Signs};
 
-use super::front::{Reader, first};
-use syntax::tree::{Lexeme, Operator};
-use tokens::token::{Mark, Symbol, Token, TokenKind, Word};
+use super::front::Reader;
+use syntax::tree::Operator;
+use tokens::token::{Symbol, Token, TokenKind, Word};
 
-impl Reader {
-    pub fn adding<'t, 'a>(self, ts: &'t [Token<'a>]) -> Option<(usize, Operator, &'t [Token<'a>])>
-        ensures { Operates 3 self.end terms term (seen ts.entry) result }
+// What operators join: `+` and `-` terms to a sum, `*`, `div` and `mod` apps to a term.
+#[derive(Clone, Copy, Debug, PartialEq)]
+pub enum Tier {
+    Sum,
+    Term,
+}
+
+impl Tier {
+    // The operator that a token is, if it is one of these.
+    fn operator(self, kind: TokenKind<'_>) -> Option<Operator>
+        ensures { Signs self (meaning kind.entry) result }
     {
-        match first(ts) {
-            Some(
-                (
-                    Token {
-                        place,
-                        kind: TokenKind::Symbol(Symbol::Plus),
-                    },
-                    rest,
-                ),
-            ) => Some((place, Operator::Plus, rest)),
-            Some(
-                (
-                    Token {
-                        place,
-                        kind: TokenKind::Symbol(Symbol::Minus),
-                    },
-                    rest,
-                ),
-            ) => Some((place, Operator::Minus, rest)),
+        match (self, kind) {
+            (Tier::Sum, TokenKind::Symbol(Symbol::Plus)) => Some(Operator::Plus),
+            (Tier::Sum, TokenKind::Symbol(Symbol::Minus)) => Some(Operator::Minus),
+            (Tier::Term, TokenKind::Symbol(Symbol::Star)) => Some(Operator::Times),
+            (Tier::Term, TokenKind::Word(Word::Div)) => Some(Operator::Div),
+            (Tier::Term, TokenKind::Word(Word::Mod)) => Some(Operator::Mod),
             _ => None,
         }
     }
+}
 
-    pub fn multiplying<'t, 'a>(
-        self,
-        ts: &'t [Token<'a>],
-    ) -> Option<(usize, Operator, &'t [Token<'a>])>
-        ensures { Operates 2 self.end apps app (seen ts.entry) result }
+impl<'t, 'a> Reader<'t, 'a> {
+    // The place of an operator and that operator, which is taken.
+    pub fn operator(&mut self, tier: Tier) -> Option<(usize, Operator)>
+        ensures found { Operates (strength_of tier) self.old.end (more_of tier) (part_of tier) (seen self.old.rest) (left_if result self.new.rest) }
+        ensures same { MatchOption result (self.new ≡ self.old) (λ _. self.new.end ≡ self.old.end) }
     {
-        match first(ts) {
-            Some(
-                (
-                    Token {
-                        place,
-                        kind: TokenKind::Symbol(Symbol::Star),
-                    },
-                    rest,
-                ),
-            ) => Some((place, Operator::Times, rest)),
-            Some(
-                (
-                    Token {
-                        place,
-                        kind: TokenKind::Word(Word::Div),
-                    },
-                    rest,
-                ),
-            ) => Some((place, Operator::Div, rest)),
-            Some(
-                (
-                    Token {
-                        place,
-                        kind: TokenKind::Word(Word::Mod),
-                    },
-                    rest,
-                ),
-            ) => Some((place, Operator::Mod, rest)),
-            _ => None,
-        }
-    }
-
-    // What follows a `,` between arguments.
-    pub fn comma<'t, 'a>(self, ts: &'t [Token<'a>]) -> Option<&'t [Token<'a>]>
-        ensures { GoesOn self.end further_args (symbol Symbol.Comma) args_goals (seen ts.entry) result }
-    {
-        match first(ts) {
-            Some(
-                (
-                    Token {
-                        kind: TokenKind::Symbol(Symbol::Comma),
-                        ..
-                    },
-                    rest,
-                ),
-            ) => Some(rest),
-            _ => None,
-        }
-    }
-
-    // What follows a `:=`.
-    pub fn becomes<'t, 'a>(self, ts: &'t [Token<'a>]) -> Option<&'t [Token<'a>]>
-        ensures { GoesOn self.end assign (symbol Symbol.Assign) semi_goals (seen ts.entry) result }
-    {
-        match first(ts) {
-            Some(
-                (
-                    Token {
-                        kind: TokenKind::Symbol(Symbol::Assign),
-                        ..
-                    },
-                    rest,
-                ),
-            ) => Some(rest),
-            _ => None,
-        }
-    }
-
-    // What follows another `val`.
-    pub fn again<'t, 'a>(self, ts: &'t [Token<'a>]) -> Option<&'t [Token<'a>]>
-        ensures { GoesOn self.end further_vals (word Word.Val) vals_goals (seen ts.entry) result }
-    {
-        match first(ts) {
-            Some(
-                (
-                    Token {
-                        kind: TokenKind::Word(Word::Val),
-                        ..
-                    },
-                    rest,
-                ),
-            ) => Some(rest),
-            _ => None,
-        }
-    }
-
-    pub fn bound<'t, 'a>(self, ts: &'t [Token<'a>]) -> Option<(Lexeme<'a>, &'t [Token<'a>])>
-        ensures { BoundMark self.end (seen ts.entry) result }
-    {
-        match first(ts) {
-            Some(
-                (
-                    Token {
-                        place,
-                        kind: TokenKind::Mark(Mark::Bound(bytes)),
-                    },
-                    rest,
-                ),
-            ) => Some((Lexeme { place, bytes }, rest)),
-            _ => None,
-        }
-    }
-
-    pub fn binder<'t, 'a>(self, ts: &'t [Token<'a>]) -> (Option<Lexeme<'a>>, &'t [Token<'a>])
-        ensures { BinderMark self.end (seen ts.entry) result }
-    {
-        match first(ts) {
-            Some(
-                (
-                    Token {
-                        place,
-                        kind: TokenKind::Mark(Mark::Binder(bytes)),
-                    },
-                    rest,
-                ),
-            ) => (Some(Lexeme { place, bytes }), rest),
-            _ => (None, ts),
-        }
-    }
-
-    // The place of an `if`, and what follows it.
-    pub fn conditions<'t, 'a>(self, ts: &'t [Token<'a>]) -> Option<(usize, &'t [Token<'a>])>
-        ensures { Conditions self.end (seen ts.entry) result }
-    {
-        match first(ts) {
-            Some(
-                (
-                    Token {
-                        place,
-                        kind: TokenKind::Word(Word::If),
-                    },
-                    rest,
-                ),
-            ) => Some((place, rest)),
-            _ => None,
-        }
-    }
-
-    // The place of a call's `(`, and what follows it.
-    pub fn opens<'t, 'a>(self, ts: &'t [Token<'a>]) -> Option<(usize, &'t [Token<'a>])>
-        ensures { Opens self.end (seen ts.entry) result }
-    {
-        match first(ts) {
-            Some(
-                (
-                    Token {
-                        place,
-                        kind: TokenKind::Symbol(Symbol::Open),
-                    },
-                    rest,
-                ),
-            ) => Some((place, rest)),
-            _ => None,
-        }
+        let [Token { place, kind }, rest @ ..] = self.rest else {
+            return None;
+        };
+        let op = tier.operator(*kind)?;
+        self.rest = rest;
+        Some((*place, op))
     }
 }

@@ -1,24 +1,15 @@
 // Trees of their parts.
 ghost use Rattle.tokens.specs.Tokens.{word, symbol};
-ghost use Rattle.pieces.specs.Making.{Boxed, Made, Joined, Grouped, Assigned, Chosen, Within, Called, Prefixed, Lasts, Mores, BindsLast, BindsMore};
+ghost use Rattle.pieces.specs.Making.{Made, Joined, Grouped, Assigned, Chosen, Within, Called, Prefixed, Lasts, Mores, BindsLast, BindsMore};
 
 use super::fault::Fault;
 use super::front::Reader;
 use syntax::tree::{Args, Exp, Lexeme, Operator, Vals};
 use tokens::token::{Symbol, Word};
 
-impl Reader {
-    pub fn boxed<T: Drop>(self, x: T) -> Result<Box<T>, Fault>
-        ensures { Boxed x result }
-    {
-        match Box::new(self.heap, x) {
-            Ok(b) => Ok(b),
-            Err(_) => Err(Fault::Memory),
-        }
-    }
-
-    pub fn arith<'a>(
-        self,
+impl<'t, 'a> Reader<'t, 'a> {
+    pub fn arith(
+        &self,
         left: Exp<'a>,
         place: usize,
         op: Operator,
@@ -26,20 +17,20 @@ impl Reader {
     ) -> Result<Exp<'a>, Fault>
         ensures { Made (Joined left.entry place op right.entry) result }
     {
-        let left = self.boxed(left)?;
-        let right = self.boxed(right)?;
+        let left = Box::new(self.heap, left)?;
+        let right = Box::new(self.heap, right)?;
         Ok(Exp::Arith(left, place, op, right))
     }
 
-    pub fn grouped<'a>(self, place: usize, e: Exp<'a>) -> Result<Exp<'a>, Fault>
+    pub fn grouped(&self, place: usize, e: Exp<'a>) -> Result<Exp<'a>, Fault>
         ensures { Made (Grouped place e.entry) result }
     {
-        let e = self.boxed(e)?;
+        let e = Box::new(self.heap, e)?;
         Ok(Exp::Group(place, e))
     }
 
-    pub fn assigned<'a>(
-        self,
+    pub fn assigned(
+        &self,
         place: usize,
         a: Exp<'a>,
         b: Exp<'a>,
@@ -47,14 +38,14 @@ impl Reader {
     ) -> Result<Exp<'a>, Fault>
         ensures { Made (Assigned place a.entry b.entry c.entry) result }
     {
-        let a = self.boxed(a)?;
-        let b = self.boxed(b)?;
-        let c = self.boxed(c)?;
+        let a = Box::new(self.heap, a)?;
+        let b = Box::new(self.heap, b)?;
+        let c = Box::new(self.heap, c)?;
         Ok(Exp::Assign(place, a, b, c))
     }
 
-    pub fn chosen<'a>(
-        self,
+    pub fn chosen(
+        &self,
         place: usize,
         a: Exp<'a>,
         b: Exp<'a>,
@@ -63,71 +54,72 @@ impl Reader {
     ) -> Result<Exp<'a>, Fault>
         ensures { Made (Chosen place a.entry b.entry c.entry d.entry) result }
     {
-        let a = self.boxed(a)?;
-        let b = self.boxed(b)?;
-        let c = self.boxed(c)?;
-        let d = self.boxed(d)?;
+        let a = Box::new(self.heap, a)?;
+        let b = Box::new(self.heap, b)?;
+        let c = Box::new(self.heap, c)?;
+        let d = Box::new(self.heap, d)?;
         Ok(Exp::If(place, a, b, c, d))
     }
 
-    pub fn within<'a>(self, place: usize, vals: Vals<'a>, e: Exp<'a>) -> Result<Exp<'a>, Fault>
+    pub fn within(&self, place: usize, vals: Vals<'a>, e: Exp<'a>) -> Result<Exp<'a>, Fault>
         ensures { Made (Within place vals.entry e.entry) result }
     {
-        let vals = self.boxed(vals)?;
-        let e = self.boxed(e)?;
+        let vals = Box::new(self.heap, vals)?;
+        let e = Box::new(self.heap, e)?;
         Ok(Exp::Let(place, vals, e))
     }
 
-    pub fn called<'a>(self, name: Lexeme<'a>, args: Args<'a>) -> Result<Exp<'a>, Fault>
+    pub fn called(&self, name: Lexeme<'a>, args: Args<'a>) -> Result<Exp<'a>, Fault>
         ensures { Made (Called name.entry args.entry) result }
     {
-        let args = self.boxed(args)?;
+        let args = Box::new(self.heap, args)?;
         Ok(Exp::Call(name, args))
     }
 
-    pub fn reference<'a>(self, place: usize, e: Exp<'a>) -> Result<Exp<'a>, Fault>
+    // This and `read` differ in the case of the tree: with a parameter that chooses it they are no plainer.
+    pub fn reference(&self, place: usize, e: Exp<'a>) -> Result<Exp<'a>, Fault>
         ensures { Made (Prefixed place (word Word.Ref) e.entry) result }
     {
-        let e = self.boxed(e)?;
+        let e = Box::new(self.heap, e)?;
         Ok(Exp::Ref(place, e))
     }
 
-    pub fn read<'a>(self, place: usize, e: Exp<'a>) -> Result<Exp<'a>, Fault>
+    pub fn read(&self, place: usize, e: Exp<'a>) -> Result<Exp<'a>, Fault>
         ensures { Made (Prefixed place (symbol Symbol.Bang) e.entry) result }
     {
-        let e = self.boxed(e)?;
+        let e = Box::new(self.heap, e)?;
         Ok(Exp::Read(place, e))
     }
 
-    pub fn last<'a>(self, e: Exp<'a>) -> Result<Args<'a>, Fault>
+    pub fn last(&self, e: Exp<'a>) -> Result<Args<'a>, Fault>
         ensures { Made (Lasts e.entry) result }
     {
-        let e = self.boxed(e)?;
+        let e = Box::new(self.heap, e)?;
         Ok(Args::Last(e))
     }
 
-    pub fn more<'a>(self, e: Exp<'a>, args: Args<'a>) -> Result<Args<'a>, Fault>
+    pub fn more(&self, e: Exp<'a>, args: Args<'a>) -> Result<Args<'a>, Fault>
         ensures { Made (Mores e.entry args.entry) result }
     {
-        let e = self.boxed(e)?;
-        let args = self.boxed(args)?;
+        let e = Box::new(self.heap, e)?;
+        let args = Box::new(self.heap, args)?;
         Ok(Args::More(e, args))
     }
 
-    pub fn bound_last<'a>(
-        self,
+    pub fn bound_last(
+        &self,
         name: Lexeme<'a>,
         mark: Option<Lexeme<'a>>,
         e: Exp<'a>,
     ) -> Result<Vals<'a>, Fault>
         ensures { Made (BindsLast name.entry mark.entry e.entry) result }
     {
-        let e = self.boxed(e)?;
+        let e = Box::new(self.heap, e)?;
         Ok(Vals::Final(name, mark, e))
     }
 
-    pub fn bound_more<'a>(
-        self,
+    pub fn bound_more(
+        &self,
         name: Lexeme<'a>,
         mark: Option<Lexeme<'a>>,
         e: Exp<'a>,
@@ -135,8 +127,8 @@ impl Reader {
     ) -> Result<Vals<'a>, Fault>
         ensures { Made (BindsMore name.entry mark.entry e.entry vals.entry) result }
     {
-        let e = self.boxed(e)?;
-        let vals = self.boxed(vals)?;
+        let e = Box::new(self.heap, e)?;
+        let vals = Box::new(self.heap, vals)?;
         Ok(Vals::Then(name, mark, e, vals))
     }
 }

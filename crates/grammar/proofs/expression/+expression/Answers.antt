@@ -1,51 +1,54 @@
-use Rattle.std.proofs.Common.{refl, arith, rules}
-use Rattle.goals.specs.Goals.{sum, term, app, terms, apps}
-use Rattle.goals.proofs.Steps.{sum_opens, term_opens}
+use Rattle.std.proofs.Common.{ℕ, List, Some, Ok, ◌∙◌, subst, Bor}
+use Rattle.std.proofs.lemmas.Result.{err_from_is_err_and}
+use Rattle.tokens.specs.declared.token.Token.{Token}
+use Rattle.syntax.specs.declared.tree.Operator.{Operator}
+use Rattle.goals.specs.Goals.{exp, sum}
 use Rattle.pieces.specs.Seen.{seen}
-use Rattle.grammar.proofs.Steps.{atom_read, first_fails, both_read, if_reads, args_more, vals_more, vals_last}
+use Rattle.pieces.specs.Looking.{Operates}
+use Rattle.pieces.specs.Taking.{strength_of, part_strength, more_of, part_of}
+use Rattle.grammar.proofs.Steps.{chain_fails, chain_first, chain_more, same_end, if_reads}
 use Rattle.grammar.proofs.expression.+expression.Goals as goal
 
-pub args-returns-in-Ok-more : goal.args-returns-in-Ok-more
-args-returns-in-Ok-more t c =
-    args_more c.args.reader.end c.args.depth (seen c.args.ts) (c.in_ok-e.e, c.in_ok-e.rest) c.in-Some.rest (c.in-Ok.args, c.in-Ok.rest) c.in-Ok-more.args
-    c.in_ok-e.ensures c.in-Some.ensures c.in-Ok.ensures c.in-Ok-more.ensures
+pub chain-returns-in_err-joined-clause-read : goal.chain-returns-in_err-joined-clause-read
+chain-returns-in_err-joined-clause-read t c =
+    let r = c.args.reader.now in
+    let p = err_from_is_err_and c.from_residual.result c.from_residual.ensures.1 in
+    rw (p.1, p.2) (chain_fails c.args.tier r.end c.args.depth (seen r.rest) c.in_err-joined.field-0.0 c.in_err-joined.ensures.read)
 
-pub conditional-returns-in-Ok : goal.conditional-returns-in-Ok
-conditional-returns-in-Ok t c =
-    if_reads c.args.reader.end c.args.depth c.in-Some.inner c.args.place c.in-Some.ensures (seen c.args.ts)
-    (c.in_ok-a.a, c.in_ok-a.rest) (c.in_ok-b.b, c.in_ok-b.rest) (c.in_ok-c.c, c.in_ok-c.rest) (c.in_ok-d.d, c.in_ok-d.rest)
-    (seen c.in_ok-rest.rest) (seen c.in_ok-rest-2.rest) (seen c.in_ok-rest-3.rest)
-    c.in_ok-a.ensures c.in_ok-rest.ensures c.in_ok-b.ensures c.in_ok-rest-2.ensures c.in_ok-c.ensures c.in_ok-rest-3.ensures c.in_ok-d.ensures
-    c.in-Ok.e c.in-Ok.ensures
+pub chain-loop-place-init : goal.chain-loop-place-init
+chain-loop-place-init t c =
+    let r = c.args.reader.now in
+    let q = chain_first c.args.tier r.end c.args.depth (seen r.rest) (c.in_ok-joined.joined, c.part.new.reader.rest) c.in_ok-joined.ensures.read in
+    (c.part.ensures.same, q.0, q.1, q.2, q.3)
 
-pub sum-returns-in-Ok : goal.sum-returns-in-Ok
-sum-returns-in-Ok t c =
-    both_read c.args.reader.end c.args.depth sum term terms (λ n. refl) (sum_opens c.args.reader.end) 2 3 (omega arith) (seen c.args.ts) (c.in-Ok.left, c.in-Ok.rest) c.sum_rest.result c.in-Ok.ensures c.sum_rest.ensures
+pub chain-loop-place-preserved : goal.chain-loop-place-preserved
+chain-loop-place-preserved t c =
+    let r = c.args.reader.now in
+    let i = c.loop-place.invariant in
+    let e = c.in-Some.ensures.same ∙ i.0 in
+    let op : (ℕ × Operator) × Bor (List Token) = ((c.in-Some.place, c.in-Some.op), c.operator.new.self.rest) in
+    let rest = c.part-in-Some.new.reader.rest in
+    let q = chain_more c.args.tier r.end c.args.depth (seen r.rest) (seen c.loop-place.reader.rest) c.loop-place.joined c.in_ok-next.next c.in_ok-joined-2.joined op rest
+    (i.1, i.2, i.3, i.4)
+    (subst (λ n. Operates (strength_of c.args.tier) n (more_of c.args.tier) (part_of c.args.tier) (seen c.loop-place.reader.rest) (Some op)) i.0 c.in-Some.ensures.found)
+    (same_end r.end (part_strength c.args.tier) c.args.depth (part_of c.args.tier) (seen op.1) (Ok (c.in_ok-next.next, rest)) c.operator.new.self.end e c.in_ok-next.ensures.read)
+    c.in_ok-joined-2.ensures in
+    (c.part-in-Some.ensures.same ∙ e, q.0, q.1, q.2, q.3)
 
-pub sum-returns-in-Err : goal.sum-returns-in-Err
-sum-returns-in-Err t c =
-    first_fails c.args.reader.end c.args.depth sum term terms (λ n. refl) (sum_opens c.args.reader.end) (seen c.args.ts) c.in-Err.fault c.in-Err.ensures
-
-pub term-returns-in-Ok : goal.term-returns-in-Ok
-term-returns-in-Ok t c =
-    both_read c.args.reader.end c.args.depth term app apps (λ n. refl) (term_opens c.args.reader.end) 1 2 (omega arith) (seen c.args.ts) (c.in-Ok.left, c.in-Ok.rest) c.term_rest.result c.in-Ok.ensures c.term_rest.ensures
-
-pub term-returns-in-Err : goal.term-returns-in-Err
-term-returns-in-Err t c =
-    first_fails c.args.reader.end c.args.depth term app apps (λ n. refl) (term_opens c.args.reader.end) (seen c.args.ts) c.in-Err.fault c.in-Err.ensures
-
-pub vals-returns-in-Ok-bound_more : goal.vals-returns-in-Ok-bound_more
-vals-returns-in-Ok-bound_more t c =
-    let head = c.in_ok-name in
-    vals_more c.args.reader.end c.args.depth (seen c.args.ts) (head.name, head.mark, head.rest) (c.in_ok-e.e, c.in_ok-e.rest) c.in-Some.rest (c.in-Ok.vals, c.in-Ok.rest) c.in-Ok-bound_more.vals
-    head.ensures c.in_ok-e.ensures c.in-Some.ensures c.in-Ok.ensures c.in-Ok-bound_more.ensures
-
-pub vals-returns-in-Ok-bound_last : goal.vals-returns-in-Ok-bound_last
-vals-returns-in-Ok-bound_last t c =
-    let head = c.in_ok-name in
-    vals_last c.args.reader.end c.args.depth (seen c.args.ts) (head.name, head.mark, head.rest) (c.in_ok-e.e, c.in_ok-e.rest) c.in-Ok-bound_last.vals
-    head.ensures c.in_ok-e.ensures c.in-None.ensures c.in-Ok-bound_last.ensures
-
-pub app-returns-in_default : goal.app-returns-in_default
-app-returns-in_default t c =
-    atom_read c.args.reader.end c.args.depth (seen c.args.ts) c.first.result c.atom.result c.first.ensures (search rules) c.atom.ensures
+pub conditional-returns-clause-read : goal.conditional-returns-clause-read
+conditional-returns-clause-read t c =
+    let r = c.args.reader.now in
+    let e1 = c.expect.ensures.same ∙ c.chain.ensures.same in
+    let e2 = c.expect-2.ensures.same ∙ (c.chain-2.ensures.same ∙ e1) in
+    let e3 = c.expect-3.ensures.same ∙ (c.exp.ensures.same ∙ e2) in
+    let s = c.expect.new.self.rest in
+    let u = c.expect-2.new.self.rest in
+    let v = c.expect-3.new.self.rest in
+    if_reads r.end c.args.depth c.in-Some.inner c.args.place c.in-Some.ensures (seen r.rest)
+    (c.in_ok-a.a, c.chain.new.reader.rest) (c.in_ok-b.b, c.chain-2.new.reader.rest) (c.in_ok-c.c, c.exp.new.reader.rest) (c.in_ok-d.d, c.exp-2.new.reader.rest)
+    (seen s) (seen u) (seen v)
+    c.in_ok-a.ensures.read (_, c.in_ok-expect.ensures.went)
+    (same_end r.end 3 c.in-Some.inner sum (seen s) (Ok (c.in_ok-b.b, c.chain-2.new.reader.rest)) c.expect.new.self.end e1 c.in_ok-b.ensures.read) (_, c.in_ok-expect-2.ensures.went)
+    (same_end r.end 4 c.in-Some.inner exp (seen u) (Ok (c.in_ok-c.c, c.exp.new.reader.rest)) c.expect-2.new.self.end e2 c.in_ok-c.ensures.read) (_, c.in_ok-expect-3.ensures.went)
+    (same_end r.end 4 c.in-Some.inner exp (seen v) (Ok (c.in_ok-d.d, c.exp-2.new.reader.rest)) c.expect-3.new.self.end e3 c.in_ok-d.ensures.read)
+    c.chosen.result c.chosen.ensures

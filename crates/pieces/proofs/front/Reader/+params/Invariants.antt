@@ -3,4 +3,4 @@ use Rattle.pieces.specs.Seen.{seen}
 use Rattle.pieces.proofs.front.Reader.+params.Given as goal
 
 abbrev pub decreases-params : goal.decreases-params
-decreases-params l = length (seen l.ts)
+decreases-params l = length (seen l.self.now.rest)

@@ -2,6 +2,6 @@ use Rattle.pieces.specs.Seen.{seen}
 use Rattle.pieces.proofs.Closers.{applies}
 use Rattle.pieces.proofs.front.Reader.applied.Goals as goal
 
-pub returns : goal.returns
-returns c =
-    applies c.args.self.end c.args.depth (seen c.args.ts) c.args.name c.args.args c.in_ok-e.e c.in_ok-rest.rest c.in_ok-rest.ensures c.in_ok-e.ensures
+pub returns-clause-read : goal.returns-clause-read
+returns-clause-read c =
+    applies c.args.self.now.end c.args.depth (seen c.args.self.now.rest) c.args.name c.args.args c.called.result c.expect.new.self.rest (_, c.in_ok-expect.ensures.went) c.called.ensures
