@@ -1,14 +1,12 @@
 -- Arguments and parameters one by one. Assumes nothing.
-use Rattle.std.proofs.Common.{◌≡◌, ℕ, zero, suc, ◌+◌, ◌<◌, ◌≤◌, min, eqb, ◌⊎◌, List, [], ◌∷◌, length, get_or, drop, Some, None, refl, ap, ◌∙◌, inl, inr, ⊎_elim, arith}
-use Rattle.refusals.specs.declared.refusal.Refusal.TheVariants.{Unfit}
+use Rattle.std.proofs.Common.{◌≡◌, ℕ, zero, suc, ◌+◌, ◌<◌, ◌≤◌, ◌⊎◌, List, [], ◌∷◌, map, length, get_or, drop, Some, None, refl, ap, ◌∙◌, inl, inr, ⊎_elim, arith}
 use Rattle.rules.specs.Calls.{Operand as Argument, ints, fit, passes, value_of}
-use Rattle.rules.specs.Making.{Levels as TypeLevels, levels, ◌▸◌, give, demand, makes, into}
+use Rattle.rules.specs.Making.{Levels as TypeLevels, levels, ◌▸◌, give}
 use Rattle.rules.specs.Parts.{int}
 use Rattle.making.specs.Holding.{clip_levels, clip_operand, SameLevels, SameTypes, SameOperands}
 use Rattle.making.specs.declared.output.Levels.{Levels}
 use Rattle.making.specs.declared.output.Operand.{Operand}
 use Rattle.std.proofs.lemmas.List.{drop_more, drop_all, get_or-map, length-map}
-use Rattle.std.proofs.lemmas.Bool.{cases_lt}
 
 -- argument i and parameter i; past the last any will do
 abbrev pub argument : List Argument → ℕ → Argument
@@ -33,9 +31,6 @@ module _ (xs : List Operand) (args : List Argument) (s : SameOperands xs args) w
 module _ (xs : List Levels) (ps : List TypeLevels) (s : SameTypes xs ps) where
   pub as_many_types : length xs ≡ length ps
   as_many_types = ap length s ∙ length-map ps clip_levels
-
-  pub parameter_at : (i : ℕ) (d : Levels) → i < length xs → SameLevels (get_or xs i d) (parameter ps i)
-  parameter_at i d h = ap (λ l. get_or l i d) s ∙ get_or-map clip_levels ps i _ d (let e = as_many_types in omega arith)
 
 pub value_in : (args : List Argument) (i : ℕ) → i < length args → value_of args i ≡ Some (argument args i).levels.first
 value_in [] i h = absurd (omega arith)
@@ -62,26 +57,27 @@ module _ (args : List Argument) (i : ℕ) where
   pub ints_all : length args ≤ i → ints (drop i args) ≡ give tt
   ints_all h = ap ints (drop_all i args h)
 
-  module _ (ps : List TypeLevels) where
-    either : min (length args) (length ps) ≤ i → (length args ≤ i) ⊎ (length ps ≤ i)
-    either h = ⊎_elim (λ (l : i < length args). inr (omega arith)) (λ (l : length args ≤ i). inl l) (cases_lt i (length args))
+-- what stands for a list that has a front
+tail : {X : Type 0} → List X → List X
+tail [] = []
+tail (x ∷ xs) = xs
 
-    pub fit_at : i < length args → i < length ps
-        → fit (drop i args) (drop i ps) ≡ (demand (eqb (argument args i).levels.depth (parameter ps i).depth) (Unfit (argument args i).place) ▸ λ _. fit (drop (i + 1) args) (drop (i + 1) ps))
-    fit_at h k = ap (λ z. fit z (drop i ps)) (drop_more args i _ h) ∙ ap (λ z. fit (argument args i ∷ drop (i + 1) args) z) (drop_more ps i _ k)
+pub front : {X Y : Type 0} (f : Y → X) (x : X) (xs : List X) (ys : List Y) → x ∷ xs ≡ map f ys → (y : Y) × (more : List Y) × (ys ≡ y ∷ more) × (x ≡ f y) × (xs ≡ map f more)
+unfolding tail
+front f x xs [] same = let e = ap length same in absurd (omega arith)
+front f x xs (y ∷ ys) same = (y, ys, refl, ap (λ l. get_or l 0 x) same, ap tail same)
 
-    pub fit_all : min (length args) (length ps) ≤ i → fit (drop i args) (drop i ps) ≡ give tt
-    fit_all h = ⊎_elim
-        (λ (a : length args ≤ i). ap (λ z. fit z (drop i ps)) (drop_all i args a))
-        (λ (p : length ps ≤ i). ap (λ z. fit (drop i args) z) (drop_all i ps p) ∙ fit_none (drop i args))
-        (either h)
+-- where one of both lists has come to its end
+none_left : {X Y : Type 0} (f : Y → X) (xs : List X) (ys : List Y) → length xs ≡ 0 → xs ≡ map f ys → ys ≡ []
+none_left f xs [] none same = refl
+none_left f xs (y ∷ ys) none same = let e = ap length same in absurd (omega arith)
 
-    pub passes_at : i < length args → i < length ps
-        → passes (drop i args) (drop i ps) ≡ (makes (into (argument args i).levels (parameter ps i)) ▸ λ _. passes (drop (i + 1) args) (drop (i + 1) ps))
-    passes_at h k = ap (λ z. passes z (drop i ps)) (drop_more args i _ h) ∙ ap (λ z. passes (argument args i ∷ drop (i + 1) args) z) (drop_more ps i _ k)
+module _ (args : List Argument) (ps : List TypeLevels) where
+  pub no_fit : (args ≡ []) ⊎ (ps ≡ []) → fit args ps ≡ give tt
+  no_fit ends = ⊎_elim (λ a. ap (λ z. fit z ps) a) (λ p. ap (λ z. fit args z) p ∙ fit_none args) ends
 
-    pub passes_all : min (length args) (length ps) ≤ i → passes (drop i args) (drop i ps) ≡ give tt
-    passes_all h = ⊎_elim
-        (λ (a : length args ≤ i). ap (λ z. passes z (drop i ps)) (drop_all i args a))
-        (λ (p : length ps ≤ i). ap (λ z. passes (drop i args) z) (drop_all i ps p) ∙ passes_none (drop i args))
-        (either h)
+  pub no_passes : (args ≡ []) ⊎ (ps ≡ []) → passes args ps ≡ give tt
+  no_passes ends = ⊎_elim (λ a. ap (λ z. passes z ps) a) (λ p. ap (λ z. passes args z) p ∙ passes_none args) ends
+
+  pub run_out : (xs : List Operand) (ys : List Levels) → SameOperands xs args → SameTypes ys ps → (length xs ≡ 0) ⊎ (length ys ≡ 0) → (args ≡ []) ⊎ (ps ≡ [])
+  run_out xs ys s u ends = ⊎_elim (λ a. inl (none_left clip_operand xs args a s)) (λ p. inr (none_left clip_levels ys ps p u)) ends

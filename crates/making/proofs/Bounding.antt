@@ -51,10 +51,10 @@ module _ (m : Made) (b : Bound) (fits : Fits (more_bounds m b)) where
 -- with one more bound
 pub bound_held : (base o o' : Output) (m : Made) (b : Bound) (g : Option Bound)
     → o'.binders ≡ o.binders
-    → o'.variables ≡ o.variables
-    → o'.flows ≡ o.flows
-    → o'.noted ≡ o.noted
-    → o'.bounds ≡ min (o.bounds + 1) (2 ^ 64 - 1)
+    → o'.made.variables ≡ o.made.variables
+    → o'.made.flows ≡ o.made.flows
+    → o'.made.binders ≡ o.made.binders
+    → o'.made.bounds ≡ min (o.made.bounds + 1) (2 ^ 64 - 1)
     → contents o'.network ≡ handed_bound (contents o.network) g
     → (b.variable < most_variables → g ≡ Some b)
     → Holds base o m
@@ -87,10 +87,10 @@ bound_held base o o' m b g binders vars flows noted counted after form h =
 -- with one more binder, of which the table takes what it has room for
 pub binder_held : (base o o' : Output) (m : Made) (b : Noted) (x : Binder)
     → o'.network ≡ o.network
-    → o'.variables ≡ o.variables
-    → o'.flows ≡ o.flows
-    → o'.bounds ≡ o.bounds
-    → o'.noted ≡ min (o.noted + 1) (2 ^ 64 - 1)
+    → o'.made.variables ≡ o.made.variables
+    → o'.made.flows ≡ o.made.flows
+    → o'.made.bounds ≡ o.made.bounds
+    → o'.made.binders ≡ min (o.made.binders + 1) (2 ^ 64 - 1)
     → (length (vec_items o.binders) < most_binders → vec_items o'.binders ≡ vec_items o.binders ++ x ∷ [])
     → Longer (vec_items o.binders) (vec_items o'.binders)
     → SameBinder x b

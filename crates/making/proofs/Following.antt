@@ -4,7 +4,6 @@ use Rattle.flows.specs.declared.flow.Flow.{Flow}
 use Rattle.refusals.specs.declared.refusal.Refusal.{Refusal}
 use Rattle.refusals.specs.declared.refusal.Refusal.TheVariants.{Unfit}
 use Rattle.rules.specs.Making.{Made, Step, go_on, ◌▸◌, give, demand, makes, move, both_ways}
-use Rattle.std.proofs.lemmas.List.{append-nil}
 use Rattle.std.proofs.lemmas.Result.{err_from_is_err_and}
 use Rattle.making.specs.Holding.{Itself, Grown, Holds, Agrees, Follows}
 use Rattle.making.specs.declared.output.Output.{Output}
@@ -55,10 +54,6 @@ makes_more xs ys m = ap (λ fs. Ok (tt, record { next = m.next; flows = fs; boun
 
 pub then_makes : {S : Type 0} {H : S → Made → Type 0} {G : S → Type 0} {a b c : S} {r : Result (Unit {0}) Refusal} (xs ys : List Flow) → Follows H G Itself a b (Ok tt) (makes xs) → Follows H G Itself b c r (makes ys) → Follows H G Itself a c r (makes (xs ++ ys))
 then_makes xs ys p q = same_step (makes (xs ++ ys)) (makes_more xs ys) (then (λ _. makes ys) p (λ _ _. q))
-
--- no flow
-pub makes_none : {S : Type 0} {H : S → Made → Type 0} {G : S → Type 0} {a : S} → Follows H G Itself a a (Ok tt) (makes [])
-makes_none = record { agrees = λ m h. (tt, m, ap (λ fs. Ok (tt, record { next = m.next; flows = fs; bounds = m.bounds; binders = m.binders })) (append-nil m.flows), refl, h) }
 
 -- one level more of "s flows into t"
 pub two_more : {S : Type 0} {H : S → Made → Type 0} {G : S → Type 0} {a b c d : S} (s t i : ℕ) → Follows H G Itself a b (Ok tt) (makes (both_ways s t i)) → Follows H G Itself b c (Ok tt) (makes (move (s + (i + 1)) (t + (i + 1)) ∷ [])) → Follows H G Itself c d (Ok tt) (makes (move (t + (i + 1)) (s + (i + 1)) ∷ [])) → Follows H G Itself a d (Ok tt) (makes (both_ways s t (i + 1)))

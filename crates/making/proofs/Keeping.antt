@@ -60,10 +60,10 @@ module _ (m : Made) (f : Flow) (fits : Fits (more_flows m f)) where
 -- with one more flow
 pub flow_held : (base o o' : Output) (m : Made) (f : Flow) (g : Option Flow)
     → o'.binders ≡ o.binders
-    → o'.variables ≡ o.variables
-    → o'.bounds ≡ o.bounds
-    → o'.noted ≡ o.noted
-    → o'.flows ≡ min (o.flows + 1) (2 ^ 64 - 1)
+    → o'.made.variables ≡ o.made.variables
+    → o'.made.bounds ≡ o.made.bounds
+    → o'.made.binders ≡ o.made.binders
+    → o'.made.flows ≡ min (o.made.flows + 1) (2 ^ 64 - 1)
     → contents o'.network ≡ handed (contents o.network) g
     → (inside most_variables f ≡ true → g ≡ Some f)
     → Holds base o m

@@ -75,10 +75,10 @@ pub record Kept (c : Contents) (m : Made) : Type 0 where
 
 -- the state holds what is made, and all that was there at `base`
 pub record Holds (base : Output) (o : Output) (m : Made) : Type 0 where
-  pub variables : o.variables ≡ clip m.next
-  pub flows : o.flows ≡ clip (length m.flows)
-  pub bounds : o.bounds ≡ clip (length m.bounds)
-  pub noted : o.noted ≡ clip (length m.binders)
+  pub variables : o.made.variables ≡ clip m.next
+  pub flows : o.made.flows ≡ clip (length m.flows)
+  pub bounds : o.made.bounds ≡ clip (length m.bounds)
+  pub noted : o.made.binders ≡ clip (length m.binders)
   pub wide : (contents o.network).variables ≡ most_variables
   pub kept : Fits m → Kept (contents o.network) m
   pub binders : length m.binders ≤ most_binders → vec_items o.binders ≡ map clip_binder m.binders

@@ -14,6 +14,7 @@ use flows::network::Network;
 use kinds::kind::NameNumber;
 use kinds::operators::OperatorNumber;
 
+// This and `hand_bound` are alike but for the method and its definition; one function that takes both from its caller is no plainer.
 fn hand_flow(network: &mut Network, flow: Option<Flow>)
     ensures { contents network.new ≡ handed (contents network.old) flow }
 {
@@ -35,10 +36,11 @@ impl Output {
     fn add_flow(&mut self, narrowed: Option<Flow>)
         ensures { (base : Output) (f : Flow) → (inside most_variables f ≡ true → narrowed ≡ Some f) → Follows (Holds base) (Grown base) Itself self.old self.new (Ok tt) (makes (f ∷ [])) }
     {
-        self.flows = self.flows.saturating_add(1);
+        self.made.flows = self.made.flows.saturating_add(1);
         hand_flow(&mut self.network, narrowed);
     }
 
+    // Operator, operands and target are handed on once, to `operator_flow`: a struct for them would be a second `Flow`.
     pub fn add_operator(
         &mut self,
         operator: OperatorNumber,
@@ -60,14 +62,14 @@ impl Output {
     pub fn add_bound(&mut self, name: NameNumber, variable: usize)
         ensures { (base : Output) (v : ℕ) → variable ≡ clip v → Follows (Holds base) (Grown base) Itself self.old self.new (Ok tt) (limits (record { name = name; variable = v })) }
     {
-        self.bounds = self.bounds.saturating_add(1);
+        self.made.bounds = self.made.bounds.saturating_add(1);
         hand_bound(&mut self.network, narrow_bound(name, variable));
     }
 
     pub fn add_binder(&mut self, binder: Binder)
         ensures { (base : Output) (b : Noted) → SameBinder binder b → Follows (Holds base) (Grown base) Itself self.old self.new (Ok tt) (notes b) }
     {
-        self.noted = self.noted.saturating_add(1);
+        self.made.binders = self.made.binders.saturating_add(1);
         if self.binders.len() < MOST_BINDERS {
             self.binders.push_reserved(binder);
         }

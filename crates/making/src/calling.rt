@@ -13,10 +13,8 @@ use refusals::refusal::Refusal;
 fn all_ints(operands: &[Operand]) -> Result<(), Refusal>
     ensures { (base o : Output) (args : List Argument) → SameOperands operands.now args → Follows (Holds base) (Grown base) Itself o o result (ints args) }
 {
-    for i in 0..operands.len() {
-        if operands[i].levels.depth != 0 {
-            return Err(Refusal::Unfit(operands[i].place));
-        }
+    for operand in operands {
+        operand.demand_int()?;
     }
     Ok(())
 }
@@ -25,10 +23,9 @@ fn all_ints(operands: &[Operand]) -> Result<(), Refusal>
 fn all_fit(operands: &[Operand], parameters: &[Levels]) -> Result<(), Refusal>
     ensures { (base o : Output) (args : List Argument) (ps : List TypeLevels) → SameOperands operands.now args → SameTypes parameters.now ps → Follows (Holds base) (Grown base) Itself o o result (fit args ps) }
 {
-    let both = operands.len().min(parameters.len());
-    for i in 0..both {
-        if operands[i].levels.depth != parameters[i].depth {
-            return Err(Refusal::Unfit(operands[i].place));
+    for (operand, parameter) in operands.iter().zip(parameters) {
+        if operand.levels.depth != parameter.depth {
+            return Err(Refusal::Unfit(operand.place));
         }
     }
     Ok(())
@@ -38,11 +35,7 @@ fn all_fit(operands: &[Operand], parameters: &[Levels]) -> Result<(), Refusal>
 fn value_at(operands: &[Operand], i: usize) -> Option<usize>
     ensures { (args : List Argument) → SameOperands operands.now args → result ≡ clip_source (value_of args i) }
 {
-    if i < operands.len() {
-        Some(operands[i].levels.first)
-    } else {
-        None
-    }
+    Some(operands.get(i)?.levels.first)
 }
 
 impl Output {
@@ -50,9 +43,8 @@ impl Output {
     fn pass(&mut self, operands: &[Operand], parameters: &[Levels])
         ensures { (base : Output) (args : List Argument) (ps : List TypeLevels) → SameOperands operands.now args → SameTypes parameters.now ps → Follows (Holds base) (Grown base) Itself self.old self.new (Ok tt) (passes args ps) }
     {
-        let both = operands.len().min(parameters.len());
-        for i in 0..both {
-            self.flow_into(operands[i].levels, parameters[i]);
+        for (operand, parameter) in operands.iter().zip(parameters) {
+            self.flow_into(operand.levels, *parameter);
         }
     }
 

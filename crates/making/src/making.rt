@@ -26,8 +26,8 @@ impl Output {
     pub fn new_type(&mut self, depth: u8) -> Levels
         ensures { (base : Output) → Follows (Holds base) (Grown base) SameLevels self.old self.new (Ok result) (fresh depth) }
     {
-        let first = self.variables;
-        self.variables = level(first, depth as usize + 1);
+        let first = self.made.variables;
+        self.made.variables = level(first, depth as usize + 1);
         Levels { first, depth }
     }
 

@@ -1,25 +1,37 @@
 ghost use Rattle.std.specs.Prelude.{◌≡◌, ℕ, Some, Ok};
 ghost use Rattle.making.specs.Holding.{SameLevels, Itself, Grown, Holds, Follows};
 ghost use Rattle.rules.specs.Making.{Levels as TypeLevels};
-ghost use Rattle.rules.specs.Parts.{literal, cell, reached, arithmetic, branches, assigned, limited, returned};
+ghost use Rattle.rules.specs.Parts.{int, literal, cell, reached, arithmetic, branches, assigned, limited, returned};
 ghost use Rattle.syntax.specs.Trees.{Text};
 
 use super::making::below;
-use super::output::{Levels, Output};
+use super::output::{Levels, Operand, Output};
 use kinds::kind::NameNumber;
 use kinds::operators::{ARITH, LITERAL};
 use refusals::refusal::Refusal;
 
 const DEEPEST: u8 = 3;
 
-// What `!` reaches, of what has the type a and begins at a place.
-pub fn reach(at: usize, a: Levels) -> Result<Levels, Refusal>
-    ensures { (base o : Output) (x : TypeLevels) → SameLevels a x → Follows (Holds base) (Grown base) SameLevels o o result (reached at x) }
-{
-    if a.depth == 0 {
-        return Err(Refusal::Unfit(at));
+impl Operand {
+    // Refuses what is no int.
+    pub(super) fn demand_int(self) -> Result<(), Refusal>
+        ensures { (base o : Output) (p : ℕ) (x : TypeLevels) → self.place ≡ p → SameLevels self.levels x → Follows (Holds base) (Grown base) Itself o o result (int p x) }
+    {
+        if self.levels.depth != 0 {
+            return Err(Refusal::Unfit(self.place));
+        }
+        Ok(())
     }
-    Ok(below(a))
+}
+
+// What `!` reaches.
+pub fn reach(a: Operand) -> Result<Levels, Refusal>
+    ensures { (base o : Output) (x : TypeLevels) → SameLevels a.levels x → Follows (Holds base) (Grown base) SameLevels o o result (reached a.place x) }
+{
+    if a.levels.depth == 0 {
+        return Err(Refusal::Unfit(a.place));
+    }
+    Ok(below(a.levels))
 }
 
 impl Output {
@@ -44,72 +56,48 @@ impl Output {
         Ok(t)
     }
 
-    pub fn add_arithmetic(
-        &mut self,
-        at: usize,
-        a: Levels,
-        bt: usize,
-        b: Levels,
-    ) -> Result<Levels, Refusal>
-        ensures { (base : Output) (x y : TypeLevels) → SameLevels a x → SameLevels b y → Follows (Holds base) (Grown base) SameLevels self.old self.new result (arithmetic at x bt y) }
+    pub fn add_arithmetic(&mut self, a: Operand, b: Operand) -> Result<Levels, Refusal>
+        ensures { (base : Output) (x y : TypeLevels) → SameLevels a.levels x → SameLevels b.levels y → Follows (Holds base) (Grown base) SameLevels self.old self.new result (arithmetic a.place x b.place y) }
     {
-        if a.depth != 0 {
-            return Err(Refusal::Unfit(at));
-        }
-        if b.depth != 0 {
-            return Err(Refusal::Unfit(bt));
-        }
+        a.demand_int()?;
+        b.demand_int()?;
         let t = self.new_type(0);
-        self.add_operator(ARITH, Some(a.first), Some(b.first), t.first);
+        self.add_operator(ARITH, Some(a.levels.first), Some(b.levels.first), t.first);
         Ok(t)
     }
 
     // `if a < b then c else d`
     pub fn add_branches(
         &mut self,
-        at: usize,
-        a: Levels,
-        bt: usize,
-        b: Levels,
+        a: Operand,
+        b: Operand,
         c: Levels,
-        dt: usize,
-        d: Levels,
+        d: Operand,
     ) -> Result<Levels, Refusal>
-        ensures { (base : Output) (x y z w : TypeLevels) → SameLevels a x → SameLevels b y → SameLevels c z → SameLevels d w → Follows (Holds base) (Grown base) SameLevels self.old self.new result (branches at x bt y z dt w) }
+        ensures { (base : Output) (x y z w : TypeLevels) → SameLevels a.levels x → SameLevels b.levels y → SameLevels c z → SameLevels d.levels w → Follows (Holds base) (Grown base) SameLevels self.old self.new result (branches a.place x b.place y z d.place w) }
     {
-        if a.depth != 0 {
-            return Err(Refusal::Unfit(at));
-        }
-        if b.depth != 0 {
-            return Err(Refusal::Unfit(bt));
-        }
-        if d.depth != c.depth {
-            return Err(Refusal::Unfit(dt));
+        a.demand_int()?;
+        b.demand_int()?;
+        if d.levels.depth != c.depth {
+            return Err(Refusal::Unfit(d.place));
         }
         let t = self.new_type(c.depth);
         self.flow_into(c, t);
-        self.flow_into(d, t);
+        self.flow_into(d.levels, t);
         Ok(t)
     }
 
     // `(p := e; f)`
-    pub fn add_assignment(
-        &mut self,
-        pt: usize,
-        p: Levels,
-        et: usize,
-        e: Levels,
-        f: Levels,
-    ) -> Result<Levels, Refusal>
-        ensures { (base : Output) (x y z : TypeLevels) → SameLevels p x → SameLevels e y → SameLevels f z → Follows (Holds base) (Grown base) SameLevels self.old self.new result (assigned pt x et y z) }
+    pub fn add_assignment(&mut self, p: Operand, e: Operand, f: Levels) -> Result<Levels, Refusal>
+        ensures { (base : Output) (x y z : TypeLevels) → SameLevels p.levels x → SameLevels e.levels y → SameLevels f z → Follows (Holds base) (Grown base) SameLevels self.old self.new result (assigned p.place x e.place y z) }
     {
-        if p.depth == 0 {
-            return Err(Refusal::Unfit(pt));
+        if p.levels.depth == 0 {
+            return Err(Refusal::Unfit(p.place));
         }
-        if e.depth != p.depth - 1 {
-            return Err(Refusal::Unfit(et));
+        if e.levels.depth != p.levels.depth - 1 {
+            return Err(Refusal::Unfit(e.place));
         }
-        self.flow_into(e, below(p));
+        self.flow_into(e.levels, below(p.levels));
         Ok(f)
     }
 
@@ -121,14 +109,14 @@ impl Output {
         a
     }
 
-    // A body with the type u, of a function whose result has the type t.
-    pub fn add_result(&mut self, at: usize, u: Levels, t: Levels) -> Result<(), Refusal>
-        ensures { (base : Output) (x y : TypeLevels) → SameLevels u x → SameLevels t y → Follows (Holds base) (Grown base) Itself self.old self.new result (returned at x y) }
+    // The body u of a function whose result has the type t.
+    pub fn add_result(&mut self, u: Operand, t: Levels) -> Result<(), Refusal>
+        ensures { (base : Output) (x y : TypeLevels) → SameLevels u.levels x → SameLevels t y → Follows (Holds base) (Grown base) Itself self.old self.new result (returned u.place x y) }
     {
-        if u.depth != t.depth {
-            return Err(Refusal::Unfit(at));
+        if u.levels.depth != t.depth {
+            return Err(Refusal::Unfit(u.place));
         }
-        self.flow_into(u, t);
+        self.flow_into(u.levels, t);
         Ok(())
     }
 }

@@ -13,10 +13,7 @@ impl Output {
         Before {
             counts: self.network.counts(),
             binders: self.binders.len(),
-            variables: self.variables,
-            flows: self.flows,
-            bounds: self.bounds,
-            noted: self.noted,
+            made: self.made,
         }
     }
 
@@ -24,10 +21,7 @@ impl Output {
     pub fn take_back(&mut self, to: Before) -> bool
         ensures { (base : Output) (m : Made) → Remembers base to → Grown base self.old → Settled base m → (result ≡ true) × Settled self.new m }
     {
-        self.variables = to.variables;
-        self.flows = to.flows;
-        self.bounds = to.bounds;
-        self.noted = to.noted;
+        self.made = to.made;
         self.binders.truncate(to.binders);
         self.network.cut_back(to.counts)
     }

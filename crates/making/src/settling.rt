@@ -5,7 +5,7 @@ ghost use Rattle.making.specs.Holding.{Grown, Holds};
 ghost use Rattle.making.specs.Settled.{Within, Settled, CountsOf};
 ghost use Rattle.rules.specs.Making.{Made};
 
-use super::output::Output;
+use super::output::{Output, Tally};
 use flows::network::{Counts, MOST_BOUNDS, MOST_FLOWS, MOST_VARIABLES, Network};
 
 // Gives the network all the variables that it can hold.
@@ -14,28 +14,25 @@ fn fill(network: &mut Network)
     ensures flows { (contents network.new).flows ≡ (contents network.old).flows }
     ensures bounds { (contents network.new).bounds ≡ (contents network.old).bounds }
 {
-    for i in 0..MOST_VARIABLES {
+    for _ in 0..MOST_VARIABLES {
         let _ = network.add_variable();
     }
 }
 
 // The counts of a network that holds so much, where one can.
-fn counts_of(variables: usize, flows: usize, bounds: usize) -> Option<Counts>
-    ensures { CountsOf variables flows bounds result }
+fn counts_of(made: Tally) -> Option<Counts>
+    ensures { CountsOf made result }
 {
-    if variables > MOST_VARIABLES as usize {
-        return None;
-    }
-    if flows > MOST_FLOWS as usize {
-        return None;
-    }
-    if bounds > MOST_BOUNDS as usize {
+    if made.variables > MOST_VARIABLES as usize
+        || made.flows > MOST_FLOWS as usize
+        || made.bounds > MOST_BOUNDS as usize
+    {
         return None;
     }
     Some(Counts {
-        variables: variables as u16,
-        flows: flows as u16,
-        bounds: bounds as u16,
+        variables: made.variables as u16,
+        flows: made.flows as u16,
+        bounds: made.bounds as u16,
     })
 }
 
@@ -52,7 +49,7 @@ impl Output {
         ensures within { (base : Output) (m : Made) → Holds base self.old m → Within m → (result ≡ true) × Settled self.new m }
         ensures passed { (base : Output) → Grown base self.old → result ≡ false → Grown base self.new }
     {
-        let Some(to) = counts_of(self.variables, self.flows, self.bounds) else {
+        let Some(to) = counts_of(self.made) else {
             return false;
         };
         self.network.cut_back(to)

@@ -2,7 +2,7 @@ ghost use Rattle.std.specs.Prelude.{IfOk};
 ghost use Rattle.rules.specs.Making.{nothing};
 ghost use Rattle.making.specs.Settled.{Settled};
 
-use super::output::{MOST_BINDERS, Output};
+use super::output::{MOST_BINDERS, Output, Tally};
 use flows::network::Network;
 use std::alloc::{AllocError, Global};
 
@@ -14,10 +14,12 @@ impl Output {
         Ok(Output {
             network: Network::new(heap)?,
             binders: Vec::with_capacity(heap, MOST_BINDERS)?,
-            variables: 0,
-            flows: 0,
-            bounds: 0,
-            noted: 0,
+            made: Tally {
+                variables: 0,
+                flows: 0,
+                bounds: 0,
+                binders: 0,
+            },
         })
     }
 }

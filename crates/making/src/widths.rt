@@ -13,22 +13,19 @@ use kinds::operators::OperatorNumber;
 fn narrow(v: usize) -> Option<Variable>
     ensures { result ≡ (if nat_lt v 65536 then Some v else None) }
 {
-    if v < 65536 { Some(v as Variable) } else { None }
+    Variable::try_from(v).ok()
 }
 
 fn narrow_source(source: Option<usize>) -> Option<Option<Variable>>
     ensures { (x : Option ℕ) → source ≡ clip_source x → known most_variables x ≡ true → result ≡ Some x }
 {
-    let Some(v) = source else {
-        return Some(None);
-    };
-    let Some(v) = narrow(v) else {
-        return None;
-    };
-    Some(Some(v))
+    match source {
+        Some(v) => Some(Some(narrow(v)?)),
+        None => Some(None),
+    }
 }
 
-// A flow as the network has it, where its numbers are not too great.
+// A flow as the network has it, where its numbers are not too great. The parameters are a flow's, not yet narrow.
 pub(super) fn operator_flow(
     operator: OperatorNumber,
     a: Option<usize>,
@@ -37,38 +34,26 @@ pub(super) fn operator_flow(
 ) -> Option<Flow>
     ensures { (x y : Option ℕ) (t : ℕ) → a ≡ clip_source x → b ≡ clip_source y → target ≡ clip t → inside most_variables (flow (Operator operator x y) t) ≡ true → result ≡ Some (flow (Operator operator x y) t) }
 {
-    let Some(first) = narrow_source(a) else {
-        return None;
-    };
-    let Some(second) = narrow_source(b) else {
-        return None;
-    };
-    let Some(to) = narrow(target) else {
-        return None;
-    };
     Some(Flow {
-        rule: Rule::Operator(operator, first, second),
-        target: to,
+        rule: Rule::Operator(operator, narrow_source(a)?, narrow_source(b)?),
+        target: narrow(target)?,
     })
 }
 
 pub(super) fn name_flow(name: NameNumber, target: usize) -> Option<Flow>
     ensures { (t : ℕ) → target ≡ clip t → inside most_variables (flow (Name name) t) ≡ true → result ≡ Some (flow (Name name) t) }
 {
-    let Some(to) = narrow(target) else {
-        return None;
-    };
     Some(Flow {
         rule: Rule::Name(name),
-        target: to,
+        target: narrow(target)?,
     })
 }
 
 pub(super) fn narrow_bound(name: NameNumber, variable: usize) -> Option<Bound>
     ensures { (v : ℕ) → variable ≡ clip v → v < most_variables → result ≡ Some (record { name = name; variable = v }) }
 {
-    let Some(to) = narrow(variable) else {
-        return None;
-    };
-    Some(Bound { name, variable: to })
+    Some(Bound {
+        name,
+        variable: narrow(variable)?,
+    })
 }

@@ -4,14 +4,15 @@ use Rattle.flows.specs.declared.flow.Flow.{Flow}
 use Rattle.flows.specs.declared.flow.Rule.TheVariants.{Name}
 use Rattle.refusals.specs.declared.refusal.Refusal.TheVariants.{NotInForce, Unfit}
 use Rattle.syntax.specs.Trees.{Text}
-use Rattle.tokens.specs.Marks.{all, groups_of}
+use Rattle.std.specs.List.{list_all}
+use Rattle.tokens.specs.Marks.{groups_of}
 use Rattle.rules.specs.Making.{Levels, Step, ◌▸◌, give, demand, flow, makes}
 
 -- `find` gives the number of a name in marks, where it is known
 module _ (find : List ℕ → Option ℕ) where
   -- all names of all groups
   abbrev pub known : List (List (List ℕ)) → Bool
-  known groups = all (all (λ name. is_some (find name))) groups
+  known groups = list_all (list_all (λ name. is_some (find name))) groups
 
   abbrev pub name_flow : Option ℕ → ℕ → List Flow
   name_flow None target = []

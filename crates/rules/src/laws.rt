@@ -1,4 +1,4 @@
-// Theorems about the rules. What these functions answer means nothing.
+// Theorems about the rules. The functions do nothing.
 ghost use Rattle.rules.specs.Cases.{Cases};
 ghost use Rattle.rules.specs.Example.{Session};
 ghost use Rattle.rules.specs.Numbering.{Numbered};
@@ -7,29 +7,21 @@ ghost use Rattle.rules.specs.References.{Shared};
 use kinds::kind::Kind;
 
 // All names of a reference share what it holds, over every kind.
-pub fn references_are_shared<K: Kind>() -> u8
+pub fn references_are_shared<K: Kind>()
     ensures { Shared K.Kind }
-{
-    0
-}
+{}
 
 // All that the rules make has variables that are made.
-pub fn numbering() -> u8
+pub fn numbering()
     ensures { Numbered }
-{
-    0
-}
+{}
 
 // The rules at work: what a session of five declarations makes.
-pub fn worked_example() -> u8
+pub fn worked_example()
     ensures { Session }
-{
-    0
-}
+{}
 
 // Declarations that are refused, each for another reason, by computing.
-pub fn worked_refusals() -> u8
+pub fn worked_refusals()
     ensures { Cases }
-{
-    0
-}
+{}

@@ -1,20 +1,28 @@
-use Rattle.std.proofs.Common.{◌<◌, ◌≤◌, min, length, refl, arith}
-use Rattle.making.proofs.Arguments.{argument, parameter, as_many, as_many_types, type_at, parameter_at, passes_at, passes_all}
+use Rattle.std.proofs.Common.{◌∷◌, sym, refl, ap, ◌∙◌, inl, inr, ⊎_elim}
+use Rattle.rules.specs.Calls.{passes}
+use Rattle.making.specs.Holding.{clip_operand, clip_levels}
+use Rattle.making.specs.declared.output.Operand.{Operand}
+use Rattle.making.proofs.Arguments.{front, no_passes, run_out}
 use Rattle.making.proofs.Following.{then, done, by_step}
 use Rattle.making.proofs.output.Output.pass.Goals as goal
 
-pub loop-i-preserved : goal.loop-i-preserved
-loop-i-preserved c base o args ps s u rest =
-    let xs = c.args.operands.now in
-    let ys = c.args.parameters.now in
-    let i = c.loop-i.i in
-    let in-xs : i < length xs = omega (arith, c.min-both.ensures) in
-    let in_ys : i < length ys = omega (arith, c.min-both.ensures) in
-    c.loop-i.invariant base o args ps s u
-    (by_step (passes_at args i ps (omega (arith, as_many xs args s)) (omega (arith, as_many_types ys ps u)))
-    (then _ (c.flow_into.ensures base (argument args i).levels (parameter ps i) (type_at xs args s i _ in-xs) (parameter_at ys ps u i _ in_ys)) (λ _ _. rest)))
+pub loop-operand-preserved : goal.loop-operand-preserved
+loop-operand-preserved c base o args ps s u =
+    let sofar = c.loop-operand.invariant base o args ps s u in
+    let step = c.in-Some.ensures.steps in
+    let a = front clip_operand _ _ sofar.0 (sym step.0 ∙ sofar.2) in
+    let p = front clip_levels _ _ sofar.1 (sym step.1 ∙ sofar.3) in (
+      a.1,
+      p.1,
+      a.4,
+      p.4,
+      λ r rest. sofar.4 r
+          (by_step (ap (λ z. passes z sofar.1) a.2 ∙ ap (λ z. passes (a.0 ∷ a.1) z) p.2)
+          (then _ (c.flow_into.ensures base a.0.levels p.0 (ap (λ (z : Operand). z.levels) a.3) p.3) (λ _ _. rest))),
+    )
 
 pub returns : goal.returns
 returns c base args ps s u =
-    let past : min (length args) (length ps) ≤ c.loop-i.i = omega (arith, c.min-both.ensures, as_many c.args.operands.now args s, as_many_types c.args.parameters.now ps u) in
-    c.loop-i.invariant base _ args ps s u (by_step (passes_all args c.loop-i.i ps past) (done refl))
+    let sofar = c.loop-operand.invariant base _ args ps s u in
+    let ends = ⊎_elim (λ a. inl a.1.0) (λ p. inr p.1.0) c.in-None.ensures.steps in
+    sofar.4 _ (by_step (no_passes sofar.0 sofar.1 (run_out sofar.0 sofar.1 _ _ sofar.2 sofar.3 ends)) (done refl))

@@ -1,12 +1,16 @@
-use Rattle.std.proofs.Common.{List, drop, Ok}
+use Rattle.std.proofs.Common.{List, Result}
+use Rattle.std.specs.Iterator.Adapters.{zip_first, zip_second}
+use Rattle.std.specs.Slice.Iter.{iter_rest}
+use Rattle.refusals.specs.declared.refusal.Refusal.{Refusal}
 use Rattle.rules.specs.Calls.{Operand as Argument, passes}
 use Rattle.rules.specs.Making.{Levels as TypeLevels}
 use Rattle.making.specs.Holding.{SameTypes, SameOperands, Itself, Grown, Holds, Follows}
 use Rattle.making.specs.declared.output.Output.{Output}
 use Rattle.making.proofs.output.Output.pass.Given as goal
 
--- whatever goes by the rest goes by the whole
-abbrev pub invariant-loop-i : goal.invariant-loop-i
-invariant-loop-i l =
+-- the arguments and parameters that are left stand for some of the rules, and whatever goes on by those has gone by all
+abbrev pub invariant-loop-operand : goal.invariant-loop-operand
+invariant-loop-operand l =
     (base o : Output) (args : List Argument) (ps : List TypeLevels) → SameOperands l.operands args → SameTypes l.parameters ps
-    → Follows (Holds base) (Grown base) Itself l.self o (Ok tt) (passes (drop l.i args) (drop l.i ps)) → Follows (Holds base) (Grown base) Itself l.initial.self o (Ok tt) (passes args ps)
+    → (left : List Argument) × (more : List TypeLevels) × SameOperands (iter_rest (zip_first l.operand-iterator)) left × SameTypes (iter_rest (zip_second l.operand-iterator)) more
+    × ((r : Result (Unit {0}) Refusal) → Follows (Holds base) (Grown base) Itself l.self o r (passes left more) → Follows (Holds base) (Grown base) Itself l.initial.self o r (passes args ps))
