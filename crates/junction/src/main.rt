@@ -64,7 +64,8 @@ fn bottoms<K: Kind>(heap: Global) -> Result<Vec<K>, AllocError> {
     vec![in heap; K::bottom(); VARIABLES]
 }
 
-// A name, behind a comma where it is not the first.
+// A name, behind a comma where it is not the first. That it is text is a law of the kind and not of its type, so no `Display` prints
+// it.
 fn show_name(rt: &impl Print, first: bool, spelling: &[u8]) -> io::Result<()> {
     if !first {
         print!(rt; ",")?;
