@@ -5,6 +5,7 @@ use super::building::flow_inside;
 use super::flow::{Bound, Flow, Variable};
 use super::network::{Counts, Network};
 
+// This and `bounds_inside` are alike but for the test: as one function they would be `all` itself.
 fn flows_inside(flows: &[Flow], variables: Variable) -> bool
     ensures { Decides result (Closed variables flows.now) }
 {

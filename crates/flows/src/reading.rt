@@ -14,7 +14,7 @@ impl Network {
         self.counts
     }
 
-    // The flow with a number.
+    // The flow with a number. `bound` is alike but for the table and its definition.
     pub(super) fn flow(&self, number: FlowNumber) -> Flow
         requires { number < length (contents self.now).flows }
         ensures { result ≡ flow (contents self.now).flows number }

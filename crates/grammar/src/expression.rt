@@ -33,9 +33,7 @@ fn conditional<'a>(reader: &mut Reader<'_, 'a>, place: usize, depth: u8) -> Resu
     ensures read { Reads reader.old.end 4 depth exp_goal (at place (word Word.If) ∷ seen reader.old.rest) (left result reader.new.rest) }
     ensures same { reader.new.end ≡ reader.old.end }
 {
-    let Some(inner) = deeper(depth) else {
-        return Err(Fault::TooDeep(place));
-    };
+    let inner = deeper(depth).ok_or(Fault::TooDeep(place))?;
     let a = chain(reader, Tier::Sum, inner)?;
     reader.expect(Sign::Symbol(Symbol::Less))?;
     let b = chain(reader, Tier::Sum, inner)?;
@@ -133,9 +131,7 @@ fn call<'a>(
     ensures read { Reads reader.old.end 1 depth app_goal (at name.entry.place (identifier (text_of name.entry).bytes) ∷ (at place (symbol Symbol.Open) ∷ seen reader.old.rest)) (left result reader.new.rest) }
     ensures same { reader.new.end ≡ reader.old.end }
 {
-    let Some(inner) = deeper(depth) else {
-        return Err(Fault::TooDeep(place));
-    };
+    let inner = deeper(depth).ok_or(Fault::TooDeep(place))?;
     let args = args(reader, inner)?;
     reader.applied(name, args, depth)
 }
@@ -180,9 +176,7 @@ fn group<'a>(reader: &mut Reader<'_, 'a>, place: usize, depth: u8) -> Result<Exp
     ensures read { Reads reader.old.end 0 depth atom_goal (at place (symbol Symbol.Open) ∷ seen reader.old.rest) (left result reader.new.rest) }
     ensures same { reader.new.end ≡ reader.old.end }
 {
-    let Some(inner) = deeper(depth) else {
-        return Err(Fault::TooDeep(place));
-    };
+    let inner = deeper(depth).ok_or(Fault::TooDeep(place))?;
     let e = inside(reader, place, inner)?;
     reader.closed(e, depth)
 }
@@ -237,9 +231,7 @@ fn block<'a>(reader: &mut Reader<'_, 'a>, place: usize, depth: u8) -> Result<Exp
     ensures read { Reads reader.old.end 0 depth atom_goal (at place (word Word.Let) ∷ seen reader.old.rest) (left result reader.new.rest) }
     ensures same { reader.new.end ≡ reader.old.end }
 {
-    let Some(inner) = deeper(depth) else {
-        return Err(Fault::TooDeep(place));
-    };
+    let inner = deeper(depth).ok_or(Fault::TooDeep(place))?;
     reader.expect(Sign::Word(Word::Val))?;
     let vals = vals(reader, inner)?;
     reader.expect(Sign::Word(Word::In))?;

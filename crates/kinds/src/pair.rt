@@ -42,6 +42,7 @@ impl<A: PlainKind, B: PlainKind> Kind for Pair<A, B> {
         }
     }
 
+    // Order and join on each side, which no derive gives.
     fn at_or_below(self, other: Pair<A, B>) -> bool {
         self.left.at_or_below(other.left) & self.right.at_or_below(other.right)
     }

@@ -51,6 +51,7 @@ impl Kind for Sources {
         (!self.form | other.form) & (!self.looped | other.looped) & (!self.clock | other.clock)
     }
 
+    // The union, which no derive gives.
     fn join(self, other: Sources) -> Sources {
         Sources {
             form: self.form | other.form,

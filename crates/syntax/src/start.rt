@@ -5,7 +5,7 @@ ghost use Rattle.syntax.specs.Starts.{start, Begins};
 use super::tree::Exp;
 
 impl Exp<'_> {
-    // The place of its first token.
+    // The place of its first token. It calls itself, case by case as its definition does; a loop would be no plainer.
     pub fn start(&self) -> usize
         ensures { result ≡ start (tree_of self.now) }
     {

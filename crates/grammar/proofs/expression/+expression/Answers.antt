@@ -3,6 +3,7 @@ use Rattle.std.proofs.lemmas.Result.{err_from_is_err_and}
 use Rattle.tokens.specs.declared.token.Token.{Token}
 use Rattle.syntax.specs.declared.tree.Operator.{Operator}
 use Rattle.goals.specs.Goals.{exp, sum}
+use Rattle.pieces.specs.Reading.{Deeper}
 use Rattle.pieces.specs.Seen.{seen}
 use Rattle.pieces.specs.Looking.{Operates}
 use Rattle.pieces.specs.Taking.{strength_of, part_strength, more_of, part_of}
@@ -44,11 +45,11 @@ conditional-returns-clause-read t c =
     let s = c.expect.new.self.rest in
     let u = c.expect-2.new.self.rest in
     let v = c.expect-3.new.self.rest in
-    if_reads r.end c.args.depth c.in-Some.inner c.args.place c.in-Some.ensures (seen r.rest)
+    if_reads r.end c.args.depth c.in_ok-inner.inner c.args.place (subst (Deeper c.args.depth) c.in_ok-inner.ensures.ok_part c.deeper.ensures) (seen r.rest)
     (c.in_ok-a.a, c.chain.new.reader.rest) (c.in_ok-b.b, c.chain-2.new.reader.rest) (c.in_ok-c.c, c.exp.new.reader.rest) (c.in_ok-d.d, c.exp-2.new.reader.rest)
     (seen s) (seen u) (seen v)
     c.in_ok-a.ensures.read (_, c.in_ok-expect.ensures.went)
-    (same_end r.end 3 c.in-Some.inner sum (seen s) (Ok (c.in_ok-b.b, c.chain-2.new.reader.rest)) c.expect.new.self.end e1 c.in_ok-b.ensures.read) (_, c.in_ok-expect-2.ensures.went)
-    (same_end r.end 4 c.in-Some.inner exp (seen u) (Ok (c.in_ok-c.c, c.exp.new.reader.rest)) c.expect-2.new.self.end e2 c.in_ok-c.ensures.read) (_, c.in_ok-expect-3.ensures.went)
-    (same_end r.end 4 c.in-Some.inner exp (seen v) (Ok (c.in_ok-d.d, c.exp-2.new.reader.rest)) c.expect-3.new.self.end e3 c.in_ok-d.ensures.read)
+    (same_end r.end 3 c.in_ok-inner.inner sum (seen s) (Ok (c.in_ok-b.b, c.chain-2.new.reader.rest)) c.expect.new.self.end e1 c.in_ok-b.ensures.read) (_, c.in_ok-expect-2.ensures.went)
+    (same_end r.end 4 c.in_ok-inner.inner exp (seen u) (Ok (c.in_ok-c.c, c.exp.new.reader.rest)) c.expect-2.new.self.end e2 c.in_ok-c.ensures.read) (_, c.in_ok-expect-3.ensures.went)
+    (same_end r.end 4 c.in_ok-inner.inner exp (seen v) (Ok (c.in_ok-d.d, c.exp-2.new.reader.rest)) c.expect-3.new.self.end e3 c.in_ok-d.ensures.read)
     c.chosen.result c.chosen.ensures
