@@ -1,11 +1,11 @@
 -- The search for a reserved word. Assumes nothing.
-use Rattle.std.proofs.Common.{◌≡◌, ℕ, ◌+◌, ◌<◌, ◌≤◌, Bool, true, false, List, length, get_or, drop, sym, refl, ◌∙◌}
+use Rattle.std.proofs.Common.{◌≡◌, ℕ, ◌+◌, ◌<◌, Bool, true, false, List, length, get_or, drop, sym, refl, ◌∙◌}
 use Rattle.std.specs.Str.{bytes_eq}
 use Rattle.std.proofs.lemmas.Slice.Eq.{bytes_eq-Decides}
-use Rattle.std.proofs.lemmas.List.{at_drop_more, at_drop_all}
-use Rattle.std.proofs.lemmas.Bool.{cond-true, cond-false}
+use Rattle.std.proofs.lemmas.List.{at_drop_more}
+use Rattle.std.proofs.lemmas.Bool.{cond-false}
 use Rattle.tokens.specs.declared.token.Word.{Word}
-use Rattle.tokens.specs.Tokens.{word, identifier, spelling}
+use Rattle.tokens.specs.Tokens.{spelling}
 use Rattle.tokens.specs.Finding.{first_word}
 
 differ : (b : Bool) → (b ≡ true → ⊥) → b ≡ false

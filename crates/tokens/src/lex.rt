@@ -27,9 +27,7 @@ pub fn lex<'a>(heap: Global, text: &'a [u8]) -> Result<Vec<Token<'a>>, Refusal>
         if is_blank(text[place]) {
             place += 1;
         } else {
-            let Some(found) = token_at(&text[place..]) else {
-                return Err(Refusal::NoToken(place));
-            };
+            let found = token_at(&text[place..]).ok_or(Refusal::NoToken(place))?;
             tokens.push(Token {
                 place,
                 kind: found.kind,
