@@ -60,6 +60,6 @@ impl fmt::Display for Symbol {
     ghost output = { λ y. Some (sign y) };
 
     fn fmt<W: fmt::Write>(&self, f: &mut fmt::Formatter<W>) -> fmt::Result {
-        f.write_str(self.text())
+        write!(f, "{}", self.text())
     }
 }
