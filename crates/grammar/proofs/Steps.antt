@@ -1,5 +1,5 @@
 -- How the parts of an expression lead on, and what is read with them. Assumes nothing.
-use Rattle.std.proofs.Common.{◌≡◌, ℕ, ◌+◌, ◌<◌, ◌≤◌, List, [], ◌∷◌, length, Some, Ok, Err, Result, sym, refl, ap, ◌∙◌, subst, arith, Bor}
+use Rattle.std.proofs.Common.{◌≡◌, ℕ, ◌+◌, ◌<◌, ◌≤◌, List, [], ◌∷◌, ◌++◌, length, Some, None, Ok, Err, Result, sym, refl, ap, ◌∙◌, subst, arith, Bor}
 use Rattle.tokens.specs.declared.token.Token.{Token}
 use Rattle.tokens.specs.declared.token.Word.TheVariants as kw
 use Rattle.tokens.specs.declared.token.Symbol.TheVariants as sg
@@ -9,9 +9,10 @@ use Rattle.syntax.specs.declared.tree.Operator.{Operator}
 use Rattle.syntax.specs.Meanings.{tree_of}
 use Rattle.syntax.specs.Sorts.{at, After}
 use Rattle.syntax.specs.Grammar.{class, Spans}
-use Rattle.goals.specs.Goals.{Goal, Goals, one, exp, sum, level}
+use Rattle.goals.specs.Goals.{Goal, Goals, one, exp, sum, app, atom, level}
+use Rattle.goals.specs.Begins.{atom_begins, app_begins}
 use Rattle.goals.specs.Machine.{more_levels, levels, fate}
-use Rattle.goals.proofs.Steps.{steps, word_taken, level_ends, sum_opens, term_opens}
+use Rattle.goals.proofs.Steps.{on, steps, word_taken, level_ends, sum_opens, term_opens}
 use Rattle.pieces.specs.declared.fault.Fault.{Fault}
 use Rattle.pieces.specs.declared.fault.Fault.TheVariants.{Misplaced, TooDeep, Memory}
 use Rattle.pieces.specs.Seen.{seen, left}
@@ -60,6 +61,21 @@ chain_more tier end depth ts m a b e o rest before op next made = (
   omega (arith, before.2, ap length op.1, next.2),
   λ S d few. before.3 S d few ∙ op.2 S few ∙ next.3 (more_of tier ∷ S) (flat_more tier (levels S) ∙ d) (omega (arith, flat_more tier (levels S), few)),
 )
+
+-- what begins no call, no `ref` and no `!` begins an app as it begins an atom
+abbrev pub AtomFirst : List Placed → Type 0
+AtomFirst [] = Unit {0}
+AtomFirst (t ∷ ts) = app_begins t.tok ≡ atom_begins t.tok
+
+atom_fate : (end : ℕ) (ts : List Placed) → AtomFirst ts → (S : Goals) → fate end (app ∷ S) ts ≡ fate end (atom ∷ S) ts
+atom_fate end [] first S = refl
+atom_fate end (t ∷ ts) first S = ap (λ gs. on end t.place ts (elim gs [ Some hs ↦ Some (hs ++ S) | None ↦ None ])) first
+
+pub atom_read : (end depth : ℕ) (ts : List Placed) (x : Result (Exp × Bor (List Token)) Fault) → AtomFirst ts → Reads end 0 depth atom ts x → Reads end 1 depth app ts x
+atom_read end depth ts (Ok x) first a = (omega (arith, a.0), a.1, a.2, λ S d few. atom_fate end ts first S ∙ a.3 S d few)
+atom_read end depth ts (Err (Misplaced p)) first a = λ S d few. atom_fate end ts first S ∙ a S d few
+atom_read end depth ts (Err (TooDeep p)) first a = λ S d few. atom_fate end ts first S ∙ a S d few
+atom_read end depth ts (Err Memory) first a = tt
 
 -- what was read with the same end
 pub same_end : (end most depth : ℕ) (g : Goal) (ts : List Placed) (x : Result (Exp × Bor (List Token)) Fault) (n : ℕ) → n ≡ end → Reads n most depth g ts x → Reads end most depth g ts x

@@ -1,5 +1,5 @@
 // The end of an atom or a call: the closing word, and the bound marks behind it.
-ghost use Rattle.std.specs.Prelude.{◌≡◌};
+ghost use Rattle.std.specs.Prelude.{◌≡◌, OnErr};
 ghost use Rattle.goals.specs.Goals.{marks};
 ghost use Rattle.pieces.specs.Seen.{seen, left};
 ghost use Rattle.pieces.specs.Reading.{Extends};
@@ -15,10 +15,13 @@ impl<'t, 'a> Reader<'t, 'a> {
     pub fn bounds(&mut self, mut atom: Exp<'a>, depth: u8) -> Result<Exp<'a>, Fault>
         ensures read { Extends self.old.end 0 depth marks atom.entry (seen self.old.rest) (left result self.new.rest) }
         ensures same { self.new.end ≡ self.old.end }
+        ensures stays { OnErr result (self.new ≡ self.old) }
     {
-        while let Some(mark) = self.text(Text::Bound) {
-            atom = Exp::Bounded(Box::new(self.heap, atom)?, mark);
+        let mut ahead = *self;
+        while let Some(mark) = ahead.text(Text::Bound) {
+            atom = Exp::Bounded(Box::new(ahead.heap, atom)?, mark);
         }
+        *self = ahead;
         Ok(atom)
     }
 
@@ -26,9 +29,13 @@ impl<'t, 'a> Reader<'t, 'a> {
     pub fn closed(&mut self, e: Exp<'a>, depth: u8) -> Result<Exp<'a>, Fault>
         ensures read { Closed self.old.end depth e.entry (seen self.old.rest) (left result self.new.rest) }
         ensures same { self.new.end ≡ self.old.end }
+        ensures stays { OnErr result (self.new ≡ self.old) }
     {
-        self.expect(Sign::Symbol(Symbol::Close))?;
-        self.bounds(e, depth)
+        let mut ahead = *self;
+        ahead.expect(Sign::Symbol(Symbol::Close))?;
+        let atom = ahead.bounds(e, depth)?;
+        *self = ahead;
+        Ok(atom)
     }
 
     // The `end` of a `let` at `place` and the bound marks that follow it.
@@ -41,18 +48,26 @@ impl<'t, 'a> Reader<'t, 'a> {
     ) -> Result<Exp<'a>, Fault>
         ensures read { Ended self.old.end depth place vals.entry e.entry (seen self.old.rest) (left result self.new.rest) }
         ensures same { self.new.end ≡ self.old.end }
+        ensures stays { OnErr result (self.new ≡ self.old) }
     {
-        self.expect(Sign::Word(Word::End))?;
-        let e = self.within(place, vals, e)?;
-        self.bounds(e, depth)
+        let mut ahead = *self;
+        ahead.expect(Sign::Word(Word::End))?;
+        let e = ahead.within(place, vals, e)?;
+        let marked = ahead.bounds(e, depth)?;
+        *self = ahead;
+        Ok(marked)
     }
 
     // The `)` of a call.
     pub fn applied(&mut self, name: Lexeme<'a>, args: Args<'a>, depth: u8) -> Result<Exp<'a>, Fault>
         ensures read { Applied self.old.end depth name.entry args.entry (seen self.old.rest) (left result self.new.rest) }
         ensures same { self.new.end ≡ self.old.end }
+        ensures stays { OnErr result (self.new ≡ self.old) }
     {
-        self.expect(Sign::Symbol(Symbol::Close))?;
-        self.called(name, args)
+        let mut ahead = *self;
+        ahead.expect(Sign::Symbol(Symbol::Close))?;
+        let call = ahead.called(name, args)?;
+        *self = ahead;
+        Ok(call)
     }
 }

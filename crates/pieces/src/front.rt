@@ -69,9 +69,9 @@ pub fn deeper(depth: u8) -> Option<u8>
 }
 
 // The tokens that are left, where the text ends, and where trees lie. That a part of the parser leaves the end as it is, each
-// contract says by `same`: it relates two states, and an invariant of the type speaks of one. After a fault of a part the reader
-// stands where the fault was found, and nobody reads on; what takes one token takes none then.
-#[derive(Drop)]
+// contract says by `same`: it relates two states, and an invariant of the type speaks of one. After a fault a public method
+// leaves the reader where it stood (`stays`): what takes more than one token goes ahead on a copy.
+#[derive(Clone, Copy)]
 pub struct Reader<'t, 'a> {
     pub rest: &'t [Token<'a>],
     pub end: usize,

@@ -1,5 +1,5 @@
 // The head of a declaration: names, marks, types and parameters.
-ghost use Rattle.std.specs.Prelude.{◌≡◌};
+ghost use Rattle.std.specs.Prelude.{◌≡◌, OnErr};
 ghost use Rattle.pieces.specs.Seen.{seen, left};
 ghost use Rattle.pieces.specs.Looking.{Headed};
 ghost use Rattle.pieces.specs.Headers.{CountsRefs, ReadsType, ReadsParam, ReadsParams};
@@ -17,10 +17,13 @@ impl<'t, 'a> Reader<'t, 'a> {
     pub fn head(&mut self) -> Result<(Lexeme<'a>, Option<Lexeme<'a>>), Fault>
         ensures read { Headed self.old.end (seen self.old.rest) (left result self.new.rest) }
         ensures same { self.new.end ≡ self.old.end }
+        ensures stays { OnErr result (self.new ≡ self.old) }
     {
-        let name = self.identifier()?;
-        let mark = self.text(Text::Binder);
-        self.expect(Sign::Symbol(Symbol::Equals))?;
+        let mut ahead = *self;
+        let name = ahead.identifier()?;
+        let mark = ahead.text(Text::Binder);
+        ahead.expect(Sign::Symbol(Symbol::Equals))?;
+        *self = ahead;
         Ok((name, mark))
     }
 
@@ -48,10 +51,14 @@ impl<'t, 'a> Reader<'t, 'a> {
     pub fn typed(&mut self) -> Result<Ty, Fault>
         ensures read { ReadsType self.old.end (seen self.old.rest) (left result self.new.rest) }
         ensures same { self.new.end ≡ self.old.end }
+        ensures stays { OnErr result (self.new ≡ self.old) }
     {
-        self.expect(Sign::Symbol(Symbol::Colon))?;
-        let place = self.expect(Sign::Word(Word::Int))?;
-        Ok(self.refs(MOST_REFS, place))
+        let mut ahead = *self;
+        ahead.expect(Sign::Symbol(Symbol::Colon))?;
+        let place = ahead.expect(Sign::Word(Word::Int))?;
+        let ty = ahead.refs(MOST_REFS, place);
+        *self = ahead;
+        Ok(ty)
     }
 
     fn param(&mut self) -> Result<Param<'a>, Fault>
@@ -68,17 +75,25 @@ impl<'t, 'a> Reader<'t, 'a> {
     pub fn params(&mut self, room: u8) -> Result<Params<'a>, Fault>
         ensures read { ReadsParams self.old.end room (seen self.old.rest) (left result self.new.rest) }
         ensures same { self.new.end ≡ self.old.end }
+        ensures stays { OnErr result (self.new ≡ self.old) }
     {
-        let x = self.param()?;
+        let mut ahead = *self;
+        let x = ahead.param()?;
         if room == 0 {
+            *self = ahead;
             return Ok(Params::Sole(x));
         }
-        match self.take(Sign::Symbol(Symbol::Comma)) {
+        match ahead.take(Sign::Symbol(Symbol::Comma)) {
             Some(_) => {
-                let more = self.params(room - 1)?;
-                Ok(Params::And(x, Box::new(self.heap, more)?))
+                let more = ahead.params(room - 1)?;
+                let more = Box::new(ahead.heap, more)?;
+                *self = ahead;
+                Ok(Params::And(x, more))
             }
-            None => Ok(Params::Sole(x)),
+            None => {
+                *self = ahead;
+                Ok(Params::Sole(x))
+            }
         }
     }
 }

@@ -9,7 +9,7 @@ use Rattle.pieces.proofs.front.Reader.bounds.Goals as goal
 pub returns-clause-read : goal.returns-clause-read
 returns-clause-read c =
     let r = c.args.self.now in
-    let last = c.loop-mark.self in
+    let last = c.loop-mark.ahead in
     let here : Extends r.end 0 c.args.depth marks c.loop-mark.atom (seen last.rest) (Ok (c.loop-mark.atom, last.rest)) = (
       (λ low. low),
       (λ ss low s. s),

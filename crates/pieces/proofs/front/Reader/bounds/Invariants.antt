@@ -10,8 +10,8 @@ use Rattle.pieces.proofs.front.Reader.bounds.Given as goal
 -- what the atom with its marks so far goes on to, the atom goes on to
 abbrev pub invariant-loop-mark : goal.invariant-loop-mark
 invariant-loop-mark l =
-    (l.self.end ≡ l.fn.self.end)
-    × ((y : Result (Exp × Bor (List Token)) Fault) → Extends l.fn.self.end 0 l.depth marks l.atom (seen l.self.rest) y → Extends l.fn.self.end 0 l.depth marks l.fn.atom (seen l.fn.self.rest) y)
+    (l.ahead.end ≡ l.fn.self.end)
+    × ((y : Result (Exp × Bor (List Token)) Fault) → Extends l.fn.self.end 0 l.depth marks l.atom (seen l.ahead.rest) y → Extends l.fn.self.end 0 l.depth marks l.fn.atom (seen l.fn.self.rest) y)
 
 abbrev pub decreases-loop-mark : goal.decreases-loop-mark
-decreases-loop-mark l = length (seen l.self.rest)
+decreases-loop-mark l = length (seen l.ahead.rest)
