@@ -7,25 +7,25 @@ ghost use Rattle.flows.specs.Slots.{led, begun};
 use super::flow::{Flow, FlowNumber, Rule, Variable};
 use super::network::{MOST_FLOWS, MOST_VARIABLES};
 use super::readers::Readers;
-use super::slot::{Ends, Slot};
+use super::slot::{Ends, ListNumber, Slot, SlotNumber};
 use std::alloc::{AllocError, Global};
 
 // The list that stands for no source.
-const NONE: usize = MOST_VARIABLES as usize;
+const NONE: ListNumber = MOST_VARIABLES;
 
 const SLOTS: usize = 2 * MOST_FLOWS as usize;
 
-const LISTS: usize = NONE + 1;
+const LISTS: usize = NONE as usize + 1;
 
 // The list of a source.
-fn list_of(source: Option<Variable>) -> usize
+fn list_of(source: Option<Variable>) -> ListNumber
     ensures { result ≡ list_of source }
 {
-    source.map_or(NONE, |variable| NONE.min(variable as usize))
+    source.map_or(NONE, |variable| NONE.min(variable))
 }
 
 // The lists in which a rule stands: each source once.
-fn sources(rule: Rule) -> (usize, usize)
+fn sources(rule: Rule) -> (ListNumber, ListNumber)
     ensures first { result.0 ≡ first_list rule }
     ensures second { result.1 ≡ second_list rule }
 {
@@ -43,9 +43,9 @@ fn sources(rule: Rule) -> (usize, usize)
 fn lead(
     slots: &mut [Slot],
     ends: &mut [Ends],
-    list: usize,
-    before: Option<usize>,
-    to: Option<usize>,
+    list: ListNumber,
+    before: Option<SlotNumber>,
+    to: Option<SlotNumber>,
 )
     requires list { list < length ends.old }
     requires before { IfSome before (λ b. b < length slots.old) }
@@ -53,8 +53,8 @@ fn lead(
     ensures ends { ends.new ≡ begun ends.old list before to }
 {
     match before {
-        Some(slot) => slots[slot].next = to,
-        None => ends[list].first = to,
+        Some(slot) => slots[slot as usize].next = to,
+        None => ends[list as usize].first = to,
     }
 }
 
@@ -94,7 +94,7 @@ impl Readers {
     }
 
     // The first slot of a variable, if any.
-    pub(super) fn first(&self, variable: Variable) -> Option<usize>
+    pub(super) fn first(&self, variable: Variable) -> Option<SlotNumber>
         requires { variable < most_variables }
         ensures { result ≡ next_from (filled self.now) variable 0 (length (filled self.now)) }
     {
@@ -102,23 +102,23 @@ impl Readers {
     }
 
     // The slot that comes after another one in its list, if any.
-    pub(super) fn after(&self, slot: usize) -> Option<usize>
+    pub(super) fn after(&self, slot: SlotNumber) -> Option<SlotNumber>
         requires { slot < length (filled self.now) }
         ensures { result ≡ next_from (filled self.now) (slice_index (filled self.now) slot) (slot + 1) (length (filled self.now)) }
     {
-        self.slots[slot].next
+        self.slots[slot as usize].next
     }
 
     // Appends a slot to a list.
-    fn link(&mut self, list: usize)
+    fn link(&mut self, list: ListNumber)
         requires known { list < list_count }
         requires free { length (filled self.old) < most_slots }
         ensures { filled self.new ≡ filled self.old ++ list ∷ [] }
     {
-        let slot = self.slots.len();
-        let previous = self.ends[list].last;
+        let slot = self.slots.len() as SlotNumber;
+        let previous = self.ends[list as usize].last;
         lead(&mut self.slots, &mut self.ends, list, previous, Some(slot));
-        self.ends[list].last = Some(slot);
+        self.ends[list as usize].last = Some(slot);
         self.slots.push_reserved(Slot {
             list,
             previous,
@@ -132,7 +132,7 @@ impl Readers {
     {
         if let Some(Slot { list, previous, .. }) = self.slots.pop() {
             lead(&mut self.slots, &mut self.ends, list, previous, None);
-            self.ends[list].last = previous;
+            self.ends[list as usize].last = previous;
         }
     }
 }

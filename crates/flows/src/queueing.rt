@@ -51,11 +51,13 @@ impl Queue {
         }
     }
 
-    // Lets all flows go.
+    // Lets all flows go. Of the flags only theirs are set, and at the end of most runs few wait.
     pub(super) fn clear(&mut self)
         ensures { pending self.new ≡ [] }
     {
+        for number in &self.order {
+            self.waiting[*number as usize] = false;
+        }
         self.order.clear();
-        self.waiting.fill(false);
     }
 }

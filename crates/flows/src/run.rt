@@ -64,7 +64,7 @@ impl Network {
     {
         let mut next = self.readers.first(variable);
         while let Some(slot) = next {
-            queue.push((slot / 2) as FlowNumber);
+            queue.push(slot / 2);
             next = self.readers.after(slot);
         }
     }

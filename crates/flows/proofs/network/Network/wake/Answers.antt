@@ -37,9 +37,6 @@ loop-next-preserved c =
 flow_bound : (c : In-Some) → c.in-Some.slot / 2 < most_flows
 flow_bound c = let n = c.args.self.now in omega (arith, (here c).1, slots_few n, few n)
 
-pub overflow_cast-slot : goal.overflow_cast-slot
-overflow_cast-slot c = omega (arith, flow_bound (goal.at.overflow_cast-slot c).In-Some)
-
 pub push-requires : goal.push-requires
 push-requires c = flow_bound (goal.at.push-requires c).In-Some
 
