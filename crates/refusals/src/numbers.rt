@@ -10,11 +10,11 @@ use std::alloc::{AllocError, AllocFailed};
 pub const LONGEST: usize = 4096;
 
 impl Limit {
-    // Its place in the order in which limits are told.
+    // Its place, from 1, in the order in which limits are told.
     pub fn number(self) -> usize
         ensures { result ≡ limit_number self }
     {
-        self as usize
+        self as usize + 1
     }
 }
 

@@ -1,11 +1,11 @@
 // What a project holds at most of; passing a limit is a refusal.
 #[derive(Clone, Copy, Debug, PartialEq, Eq)]
 pub enum Limit {
-    Variables = 1,
-    Flows = 2,
-    Bounds = 3,
-    Binders = 4,
-    Text = 5,
+    Variables,
+    Flows,
+    Bounds,
+    Binders,
+    Text,
 }
 
 // Why a call is refused. Places count bytes of the given text from 0.
